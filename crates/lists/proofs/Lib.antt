@@ -1,0 +1,4 @@
+pub mod Bools
+pub mod Fronts
+pub mod Copies
+pub mod Tables
