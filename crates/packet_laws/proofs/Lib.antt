@@ -1,0 +1,3 @@
+pub mod RoundTrip
+pub mod Written
+pub mod WriteBack
