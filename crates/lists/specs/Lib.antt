@@ -1,1 +1,4 @@
 pub mod Table
+pub mod Options
+pub mod Places
+pub mod Search
