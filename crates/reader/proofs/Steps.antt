@@ -149,3 +149,22 @@ add-size i n d = refl
 -- a command that is neither of the first two is the third
 pub third : (k c : ℕ) → k ≡ c → c ≤ 2 → (k ≡ 0 → ⊥) → (k ≡ 1 → ⊥) → 2 ≡ c
 third k c e h a b = omega arith
+
+-- an accepted packet's sequence number and context are within their limits
+taken-limits : (s : List ℕ) → PacketOk s → (b : Bool) → isAdd (commandIn s) ≡ b → cond b 0 (contextLengthIn (dataIn s)) ≤ 64
+taken-limits s h true e = omega arith
+taken-limits s h false e = h .body .context (eqb-false (commandIn s) 0 e)
+
+pub accepted-limits : (s : List ℕ) → readOf s .answer ≡ 0 → (readOf s .sequence ≤ 4095) × (readOf s .len ≤ 64)
+accepted-limits s e =
+    let h = packet-ok s e in
+    rw (packet-taken s h) (h .body .sequence, taken-limits s h (isAdd (commandIn s)) refl)
+
+-- the context starts at octet 18 at the latest
+start-choice : (b : Bool) → cond b 0 contextStart ≤ 18
+start-choice true = omega arith
+start-choice false = omega arith
+
+pub start-limit : (s : List ℕ) → readOf s .start ≤ 18
+unfolding readOf
+start-limit s = by-cond (λ (r : Reading). r .start ≤ 18) (accepts (firstOf (readerTests s))) (λ e. start-choice (isAdd (commandIn s))) (λ e. omega arith)

@@ -1,0 +1,4 @@
+pub mod Setup
+pub mod Ticks
+pub mod Replies
+pub mod Outsides

@@ -1,0 +1,86 @@
+-- A join at one access point's record: what the code's enums mean, and the one definition that the contract cites.
+use Prim.Native.Nat.{ℕ, _<_}
+use mathlib.Core.Path.{_≡_}
+use mathlib.Core.Bool.{Bool, true, false, cond, _&&_, not}
+use mathlib.Core.List.{List, [], _∷_}
+use mathlib.Core.Option.{Option, none, some}
+use lib.Dec.{ltb, leb}
+use lib.ListN.{length, getD}
+use Rattle.lists.specs.Table.{Test, firstOf, accepts}
+use Rattle.lists.specs.Search.{indexBy}
+use Rattle.answers.specs.Numbers.{numberOf}
+use Rattle.sequence.specs.Distance.{newerOf}
+use Rattle.elements.specs.declared.Association.{Association}
+use Rattle.machine.specs.Stations.{Station}
+use Rattle.machine.specs.Packets.{Outgoing, addNotify, moveNotify}
+use Rattle.machine.specs.AccessPoint as machine
+use Rattle.machine.specs.AccessPoint.{Action, another, this, nowhere, addNotifies, joinFrom, joinTests}
+use Rattle.record.specs.declared.AccessPoint.{AccessPoint}
+use Rattle.record.specs.Slots.{noAssociation}
+use Rattle.record.specs.Lens.{getAssociations, getPoint, putPoint}
+use Rattle.record.specs.Valid.{Usable}
+use Rattle.associations.specs.Rows.{isOf}
+use Rattle.joining.specs.declared.Old.{Old}
+use Rattle.joining.specs.declared.Old.the-variants.{Nothing, At}
+use Rattle.joining.specs.declared.Origin.{Origin}
+use Rattle.joining.specs.declared.Origin.the-variants.{Another, This, Nowhere}
+use Rattle.joining.specs.declared.Notice.{Notice}
+use Rattle.joining.specs.declared.Notice.the-variants.{Silent, Announce, Notify}
+use Rattle.joining.specs.declared.Joined.{Joined}
+
+abbrev pub oldOf : Old → Option ℕ
+oldOf Nothing = none
+oldOf (At o) = some o
+
+abbrev pub originFrom : Origin → machine.Origin
+originFrom (Another o) = another o
+originFrom This = this
+originFrom Nowhere = nowhere
+
+-- what is sent by AP b of k: ADD-notify to every other AP, or MOVE-notify to the old AP, for station s and sequence n
+abbrev pub sendsBy : ℕ → ℕ → Station → ℕ → Notice → List Outgoing
+sendsBy b k s n Silent = []
+sendsBy b k s n (Announce i) = addNotifies b (record { identifier = i; station = s; sequence = n; message = addNotify }) 0 k
+sendsBy b k s n (Notify i o) = record { to = o; packet = record { identifier = i; station = s; sequence = n; message = moveNotify } } ∷ []
+
+-- the answer, the record afterwards and what is sent
+pub record Done : Type 0 where
+  pub answer : ℕ
+  pub point : AccessPoint
+  pub sends : List Outgoing
+
+abbrev pub joinedOf : ℕ → ℕ → Station → ℕ → Joined → Done
+joinedOf b k s n j = record { answer = numberOf (j .answer); point = j .point; sends = sendsBy b k s n (j .notice) }
+
+-- what the machine's access point does, put back into the record
+abbrev pub doneBy : AccessPoint → Action → Done
+doneBy a x = record { answer = 0; point = putPoint a (x .point); sends = x .sends }
+
+-- 15, 16 and 17, then the machine's join; refused, the record is as it came
+unfoldable pub joinDone : machine.Origin → ℕ → ℕ → ℕ → ℕ → Station → ℕ → List ℕ → AccessPoint → Done
+joinDone o k t r b s n c a =
+    cond (accepts (firstOf (joinTests o s n (getPoint a))))
+    (doneBy a (joinFrom o k t r 0 b s n c (getPoint a)))
+    (record { answer = firstOf (joinTests o s n (getPoint a)); point = a; sends = [] })
+
+-- the same three tests, where the station's association is at place i of rs, and i is the length where there is none: m moves are open
+abbrev pub movesTests : ℕ → Bool → List Test
+movesTests m moving = (moving && leb 8 m, 17) ∷ []
+
+unfoldable pub testsAt : List Association → ℕ → ℕ → ℕ → Bool → List Test
+testsAt rs i n m moving =
+    (ltb i (length rs) && not (newerOf n (getD rs i noAssociation .sequence)), 15)
+    ∷ (not (ltb i (length rs)) && leb 16 (length rs), 16)
+    ∷ movesTests m moving
+
+-- whether a join from this origin needs a move
+abbrev pub movingFrom : Origin → Bool
+movingFrom (Another o) = true
+movingFrom This = false
+movingFrom Nowhere = false
+
+-- a usable record with the place i of the station's association, or the first free place
+pub record Here (a : AccessPoint) (s : Station) (i : ℕ) : Type 0 where
+  pub usable : Usable a
+  pub room : i < 16
+  pub place : i ≡ indexBy (isOf s) (getAssociations (a .associations))

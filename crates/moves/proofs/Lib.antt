@@ -1,0 +1,4 @@
+pub mod Laws
+pub mod Slots
+pub mod Ticking
+pub mod Each

@@ -1,0 +1,57 @@
+-- `line::put_octets` is safe and ends. The invariant: the loop ends at the octets' length. The measure is what is left of it.
+-- Assumes nothing.
+use borrow.Author.Needs.{needs}
+use mathlib.Core.Path.{_≡_}
+use Prim.Native.Nat.{_-_}
+use lib.ListN.{length}
+use Rattle.point_cases.proofs.line.put_octets.Statement.{statement}
+use Rattle.point_cases.proofs.line.put_octets.Tie as tie
+
+abbrev Inv-loop : tie.InvT-loop
+Inv-loop line₀ at octets next₀ i₀ i-end line next i = i-end ≡ length octets
+
+abbrev μ-loop : tie.MeasureT-loop
+μ-loop line₀ at octets next₀ i₀ i-end line next i = i-end - i
+
+put-requires : tie.Need-put-requires Inv-loop μ-loop
+put-requires c κs = search needs
+
+returns : tie.Need-returns Inv-loop μ-loop
+returns c = search needs
+
+loop-holds : tie.Need-loop-holds Inv-loop μ-loop
+loop-holds c = search needs
+
+shared-slice-read-put-hex : tie.Need-shared-slice-read-put-hex Inv-loop μ-loop
+shared-slice-read-put-hex c = search needs
+
+put-hex-requires : tie.Need-put-hex-requires Inv-loop μ-loop
+put-hex-requires c κs = search needs
+
+add-i : tie.Need-add-i Inv-loop μ-loop
+add-i c = search needs
+
+loop-less : tie.Need-loop-less Inv-loop μ-loop
+loop-less c = search needs
+
+loop-again : tie.Need-loop-again Inv-loop μ-loop
+loop-again c = search needs
+
+returns-2 : tie.Need-returns-2 Inv-loop μ-loop
+returns-2 c = search needs
+
+pub put-octets-spec : {M : Type 1} → statement M
+put-octets-spec =
+    tie.close
+    (tie.spec
+    Inv-loop
+    μ-loop
+    put-requires
+    returns
+    loop-holds
+    shared-slice-read-put-hex
+    put-hex-requires
+    add-i
+    loop-less
+    loop-again
+    returns-2)

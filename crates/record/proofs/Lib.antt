@@ -1,0 +1,4 @@
+pub mod Over
+pub mod LensLaws
+pub mod ValidLaws
+pub mod Sizes
