@@ -14,7 +14,7 @@ use Rattle.record.specs.Lens.{getMoves, putMoves, named, bare, getPoint}
 use Rattle.record.proofs.LensLaws.{Fits, put-parts, associations-kept, moves-got, moves-length}
 use Rattle.moves.specs.Blank.{noMoves}
 use Rattle.moves.proofs.Laws.{counted-none, counted-all, resends-few}
-use Rattle.access_point.specs.Tick.{tickedOf, tickDone}
+use Rattle.access_point.specs.Tick.{tickDone}
 
 -- a notice does not tell a move's name
 notices-bare : (ms : List Open) → noticesOf (map named (map bare ms)) ≡ noticesOf ms
@@ -32,17 +32,23 @@ pub due-few : (t : ℕ) (a : AccessPoint) (due : Moves) → Fits a → a .moves 
 due-few t a due z h e =
     omega (arith, due-count t a due e, resends-few t (map named (getMoves (a .moves))), length-map (getMoves (a .moves)) named, moves-length (a .moves) (z .moves))
 
+-- what is sent again is the notices of the moves that are due
+pub due-sends : (t : ℕ) (a : AccessPoint) → noticesOf (map named (getMoves (tickDone t a .due))) ≡ tickBy t (getPoint a) .sends
+unfolding tickDone tickBy getPoint
+due-sends t a =
+    let ms : List Open = map named (getMoves (a .moves)) in
+    ap (λ l. noticesOf (map named l)) (moves-got noMoves (map bare (resends t ms))) ∙ notices-bare (resends t ms)
+
 module _ (t : ℕ) (a : AccessPoint) (z : Fits a) (left due : Moves) (g : ℕ)
     (el : left ≡ putMoves (a .moves) (map bare (kept t (map named (getMoves (a .moves))))))
     (ed : due ≡ putMoves noMoves (map bare (resends t (map named (getMoves (a .moves))))))
     (eg : g ≡ length (lapsed t (map named (getMoves (a .moves))))) where
   pub ticked : (r v : ℕ) → a .resent < 2 ^ 32 → a .«given_up» < 2 ^ 32 → r ≡ (a .resent + due .count) % 2 ^ 32 → v ≡ (a .«given_up» + g) % 2 ^ 32
-      → tickedOf
-      (record {
+      → record {
         point = record { associations = a .associations; moves = left; «next_identifier» = a .«next_identifier»; opened = a .opened; resent = r; answered = a .answered; «given_up» = v };
         due = due;
         «given_up» = g;
-      })
+      }
       ≡ tickDone t a
   unfolding tickDone tickBy withMoves ticking countsAfter getPoint
   ticked r v hr hv er ev =
@@ -52,6 +58,4 @@ module _ (t : ℕ) (a : AccessPoint) (z : Fits a) (left due : Moves) (g : ℕ)
       (sym (associations-kept (a .associations) (z .associations))) el refl (sym (counted-none (a .opened)))
       (er ∙ ap (λ (n : ℕ). (a .resent + n) % 2 ^ 32) (due-count t a due ed) ∙ sym (counted-all (a .resent) (resends t ms) hr)) (sym (counted-none (a .answered)))
       (ev ∙ ap (λ (n : ℕ). (a .«given_up» + n) % 2 ^ 32) eg ∙ sym (counted-all (a .«given_up») (lapsed t ms) hv)) in
-      let s : noticesOf (map named (getMoves due)) ≡ noticesOf (resends t ms) =
-      ap (λ (m : Moves). noticesOf (map named (getMoves m))) ed ∙ ap (λ l. noticesOf (map named l)) (moves-got noMoves (map bare (resends t ms))) ∙ notices-bare (resends t ms) in
-      λ k. record { point = p k; sends = s k; «given_up» = eg k }
+      λ k. record { point = p k; due = ed k; «given_up» = eg k }

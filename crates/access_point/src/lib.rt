@@ -16,7 +16,7 @@ ghost use Rattle.reader.specs.Read.{readingOf};
 ghost use Rattle.writer.specs.Write.{writingOf, writeTo};
 ghost use Rattle.machine.specs.Packets.{packetOf};
 ghost use Rattle.record.specs.Valid.{validRecord, validLoneRecord, Usable};
-ghost use Rattle.access_point.specs.Tick.{tickedOf, tickDone};
+ghost use Rattle.access_point.specs.Tick.{tickDone};
 ghost use Rattle.access_point.specs.Outside.{withRecord, replyFields, outsideOf, answerDone, outsideDone};
 
 // What a tick leaves: the record, the moves whose notice is sent again, and how many were given up.
@@ -71,7 +71,7 @@ pub fn valid_lone(l: LoneAccessPoint) -> bool
 // A tick: each open move loses one; at 0 it is sent again or given up. The associations stay.
 pub fn tick(a: AccessPoint, timeout: u16) -> Ticking
     requires { ⌜ Usable a ⌝ }
-    ensures { λ r. ⌜ tickedOf r ≡ tickDone timeout a ⌝ }
+    ensures { λ r. ⌜ r ≡ tickDone timeout a ⌝ }
 {
     let open = a.moves;
     let t = moves::tick(open, timeout);

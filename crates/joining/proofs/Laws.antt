@@ -32,7 +32,9 @@ use Rattle.associations.specs.Rows.{isOf}
 use Rattle.associations.proofs.Laws.{associate-at, context-at, station-at, sequence-at}
 use Rattle.joining.specs.declared.Origin.{Origin}
 use Rattle.joining.specs.declared.Origin.the-variants.{Another, This, Nowhere}
-use Rattle.joining.specs.Join.{originFrom, joinDone, movesTests, testsAt, movingFrom}
+use Rattle.joining.specs.declared.Notice.{Notice}
+use Rattle.joining.specs.declared.Notice.the-variants.{Silent}
+use Rattle.joining.specs.Join.{Done, sendsBy, noticeFrom, originFrom, joinDone, movesTests, testsAt, movingFrom}
 
 -- the tests, one after the other
 
@@ -152,33 +154,23 @@ tests-same a z s n i x e =
 -- a join refused, and a join done
 
 module _ (o : machine.Origin) (k q r b : ℕ) (s : List ℕ) (n : ℕ) (c : List ℕ) (a : AccessPoint) where
-  pub join-refused : (x : ℕ) → x ≡ firstOf (joinTests o s n (getPoint a)) → (x ≡ 0 → ⊥) → record { answer = x; point = a; sends = [] } ≡ joinDone o k q r b s n c a
+  pub join-refused : (x : ℕ) → x ≡ firstOf (joinTests o s n (getPoint a)) → (x ≡ 0 → ⊥) → record { answer = x; point = a; notice = Silent } ≡ joinDone o k q r b s n c a
   unfolding joinDone
   join-refused x e h = rw (← e, ne-eqb x 0 h)
 
-  pub join-accepted : (x : ℕ) (p : AccessPoint) (l : List Outgoing) → x ≡ firstOf (joinTests o s n (getPoint a)) → x ≡ 0
-      → p ≡ putPoint a (joinFrom o k q r 0 b s n c (getPoint a) .point) → l ≡ joinFrom o k q r 0 b s n c (getPoint a) .sends
-      → record { answer = x; point = p; sends = l } ≡ joinDone o k q r b s n c a
+  pub join-accepted : (x : ℕ) (p : AccessPoint) (y : Notice) → x ≡ firstOf (joinTests o s n (getPoint a)) → x ≡ 0
+      → p ≡ putPoint a (joinFrom o k q r 0 b s n c (getPoint a) .point) → y ≡ noticeFrom o (a .«next_identifier»)
+      → record { answer = x; point = p; notice = y } ≡ joinDone o k q r b s n c a
   unfolding joinDone
-  join-accepted x p l e h f g = rw (← e, h, f, g)
+  join-accepted x p y e h f g = rw (← e, h, f, g)
 
--- what each join sends
-
-pub sends-another : (old k q r b : ℕ) (s : List ℕ) (n : ℕ) (c : List ℕ) (a : AccessPoint)
-    → record { to = old; packet = record { identifier = a .«next_identifier»; station = s; sequence = n; message = moveNotify } } ∷ []
-    ≡ joinFrom (another old) k q r 0 b s n c (getPoint a) .sends
-unfolding joinFrom noticeOf newMove getPoint
-sends-another old k q r b s n c a = refl
-
-pub sends-this : (k q r b : ℕ) (s : List ℕ) (n : ℕ) (c : List ℕ) (a : AccessPoint) → [] ≡ joinFrom this k q r 0 b s n c (getPoint a) .sends
-unfolding joinFrom quietly
-sends-this k q r b s n c a = refl
-
-pub sends-nowhere : (k q r b : ℕ) (s : List ℕ) (n : ℕ) (c : List ℕ) (a : AccessPoint)
-    → addNotifies b (record { identifier = a .«next_identifier»; station = s; sequence = n; message = addNotify }) 0 k
-    ≡ joinFrom nowhere k q r 0 b s n c (getPoint a) .sends
-unfolding joinFrom getPoint
-sends-nowhere k q r b s n c a = refl
+-- what the notice of a join sends is what the machine's join sends
+pub notice-sends : (o : machine.Origin) (k q r b : ℕ) (s : List ℕ) (n : ℕ) (c : List ℕ) (a : AccessPoint)
+    → sendsBy b k s n (noticeFrom o (a .«next_identifier»)) ≡ joinFrom o k q r 0 b s n c (getPoint a) .sends
+unfolding joinFrom quietly noticeOf newMove getPoint
+notice-sends (another old) k q r b s n c a = refl
+notice-sends this k q r b s n c a = refl
+notice-sends nowhere k q r b s n c a = refl
 
 -- the record after a join does not depend on what that origin does not look at
 

@@ -14,7 +14,7 @@ use Rattle.elements.specs.declared.Association.{Association}
 use Rattle.machine.specs.Stations.{Station}
 use Rattle.machine.specs.Packets.{Outgoing, addNotify, moveNotify}
 use Rattle.machine.specs.AccessPoint as machine
-use Rattle.machine.specs.AccessPoint.{Action, another, this, nowhere, addNotifies, joinFrom, joinTests}
+use Rattle.machine.specs.AccessPoint.{another, this, nowhere, addNotifies, joinFrom, joinTests}
 use Rattle.record.specs.declared.AccessPoint.{AccessPoint}
 use Rattle.record.specs.Slots.{noAssociation}
 use Rattle.record.specs.Lens.{getAssociations, getPoint, putPoint}
@@ -43,25 +43,28 @@ sendsBy b k s n Silent = []
 sendsBy b k s n (Announce i) = addNotifies b (record { identifier = i; station = s; sequence = n; message = addNotify }) 0 k
 sendsBy b k s n (Notify i o) = record { to = o; packet = record { identifier = i; station = s; sequence = n; message = moveNotify } } ∷ []
 
--- the answer, the record afterwards and what is sent
+-- the notice of a join from an origin, with the identifier i
+abbrev pub noticeFrom : machine.Origin → ℕ → Notice
+noticeFrom (another o) i = Notify i o
+noticeFrom this i = Silent
+noticeFrom nowhere i = Announce i
+
+-- the answer, the record afterwards and the notice
 pub record Done : Type 0 where
   pub answer : ℕ
   pub point : AccessPoint
-  pub sends : List Outgoing
+  pub notice : Notice
 
-abbrev pub joinedOf : ℕ → ℕ → Station → ℕ → Joined → Done
-joinedOf b k s n j = record { answer = numberOf (j .answer); point = j .point; sends = sendsBy b k s n (j .notice) }
+abbrev pub joinedOf : Joined → Done
+joinedOf j = record { answer = numberOf (j .answer); point = j .point; notice = j .notice }
 
--- what the machine's access point does, put back into the record
-abbrev pub doneBy : AccessPoint → Action → Done
-doneBy a x = record { answer = 0; point = putPoint a (x .point); sends = x .sends }
-
--- 15, 16 and 17, then the machine's join; refused, the record is as it came
+-- 15, 16 and 17, then the machine's join, its record put back; refused, the record is as it came. What the notice sends is what the
+-- machine's join sends (`notice-sends` in proofs/Laws.antt).
 unfoldable pub joinDone : machine.Origin → ℕ → ℕ → ℕ → ℕ → Station → ℕ → List ℕ → AccessPoint → Done
 joinDone o k t r b s n c a =
     cond (accepts (firstOf (joinTests o s n (getPoint a))))
-    (doneBy a (joinFrom o k t r 0 b s n c (getPoint a)))
-    (record { answer = firstOf (joinTests o s n (getPoint a)); point = a; sends = [] })
+    (record { answer = 0; point = putPoint a (joinFrom o k t r 0 b s n c (getPoint a) .point); notice = noticeFrom o (a .«next_identifier») })
+    (record { answer = firstOf (joinTests o s n (getPoint a)); point = a; notice = Silent })
 
 -- the same three tests, where the station's association is at place i of rs, and i is the length where there is none: m moves are open
 abbrev pub movesTests : ℕ → Bool → List Test

@@ -216,7 +216,7 @@ pub fn join(
 ) -> Joined
     requires { ⌜ Usable a ⌝ }
     requires { ⌜ length (now context) ≤ 64 ⌝ }
-    ensures { λ r. ⌜ joinedOf own «ap_count» station sequence r ≡ joinDone (originOf «ap_count» own (oldOf old)) «ap_count» timeout «resend_limit» own station sequence (now (context .entry)) a ⌝ }
+    ensures { λ r. ⌜ joinedOf r ≡ joinDone (originOf «ap_count» own (oldOf old)) «ap_count» timeout «resend_limit» own station sequence (now (context .entry)) a ⌝ }
 {
     let origin = origin_of(old, own, ap_count);
     let t = a.associations;

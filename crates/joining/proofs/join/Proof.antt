@@ -1,26 +1,25 @@
 -- `joining::join` meets its contract: the tests at the station's place are the machine's, and each origin has its record and its notice.
 -- Assumes nothing.
 use Prim.Native.Nat.{_≤_}
-use mathlib.Core.Path.{_≡_, sym, ap, _∙_}
+use mathlib.Core.Path.{_≡_, refl, sym, ap, _∙_}
 use mathlib.Core.Bool.{Bool}
-use mathlib.Core.List.{List}
 use native.Mathlib.Omega.{arith}
 use borrow.Author.Needs.{needs}
 use denote.Ref.{now}
 use lib.ListN.{length}
 use Rattle.lists.specs.Table.{firstOf}
 use Rattle.answers.specs.Numbers.{numberOf}
-use Rattle.machine.specs.Packets.{Outgoing}
 use Rattle.machine.specs.AccessPoint as machine
-use Rattle.machine.specs.AccessPoint.{Action, originOf, joinTests, joinFrom}
+use Rattle.machine.specs.AccessPoint.{originOf, joinTests, joinFrom}
 use Rattle.record.specs.declared.AccessPoint.{AccessPoint}
 use Rattle.record.specs.Lens.{getAssociations, getPoint, putPoint}
 use Rattle.record.proofs.LensLaws.{associations-length}
 use Rattle.record.proofs.Sizes.{fits}
 use Rattle.associations.specs.Rows.{isOf}
 use Rattle.associations.proofs.Laws.{index-bound}
-use Rattle.joining.specs.Join.{oldOf, originFrom, movingFrom, testsAt, joinDone, Here}
-use Rattle.joining.proofs.Laws.{tests-same, place-room, moves-room, join-refused, join-accepted, sends-another, sends-this, sends-nowhere, point-another, point-this, point-nowhere}
+use Rattle.joining.specs.declared.Notice.{Notice}
+use Rattle.joining.specs.Join.{noticeFrom, oldOf, originFrom, movingFrom, testsAt, joinDone, Here}
+use Rattle.joining.proofs.Laws.{tests-same, place-room, moves-room, join-refused, join-accepted, point-another, point-this, point-nowhere}
 use Rattle.joining.proofs.join.Statement.{statement}
 use Rattle.joining.proofs.join.Tie as tie
 
@@ -52,18 +51,18 @@ here c =
       place = f .ensures;
     }
 
--- accepted, from the origin x: the record p and what is sent, l, are the machine's
-done : (c : tie.Else1) (x : machine.Origin) → originFrom (c .before .before .before .before .before .before .before .origin-of .result) ≡ x → (p : AccessPoint) (l : List Outgoing)
+-- accepted, from the origin x: the record p is the machine's, and y is the notice
+done : (c : tie.Else1) (x : machine.Origin) → originFrom (c .before .before .before .before .before .before .before .origin-of .result) ≡ x → (p : AccessPoint) (y : Notice)
     → p ≡ putPoint (c .before .before .before .before .before .before .before .before .before .args .a) (joinFrom x (c .before .before .before .before .before .before .before .before .before .args .ap-count) (c .before .before .before .before .before .before .before .before .before .args .timeout) (c .before .before .before .before .before .before .before .before .before .args .resend-limit) 0 (c .before .before .before .before .before .before .before .before .before .args .own) (c .before .before .before .before .before .before .before .before .before .args .station) (c .before .before .before .before .before .before .before .before .before .args .sequence) (now (c .before .before .before .before .before .before .before .before .before .args .context)) (getPoint (c .before .before .before .before .before .before .before .before .before .args .a)) .point)
-    → l ≡ joinFrom x (c .before .before .before .before .before .before .before .before .before .args .ap-count) (c .before .before .before .before .before .before .before .before .before .args .timeout) (c .before .before .before .before .before .before .before .before .before .args .resend-limit) 0 (c .before .before .before .before .before .before .before .before .before .args .own) (c .before .before .before .before .before .before .before .before .before .args .station) (c .before .before .before .before .before .before .before .before .before .args .sequence) (now (c .before .before .before .before .before .before .before .before .before .args .context)) (getPoint (c .before .before .before .before .before .before .before .before .before .args .a)) .sends
-    → record { answer = numberOf (c .before .before .answer-at .result); point = p; sends = l }
+    → y ≡ noticeFrom x (c .before .before .before .before .before .before .before .before .before .args .a .«next_identifier»)
+    → record { answer = numberOf (c .before .before .answer-at .result); point = p; notice = y }
     ≡ joinDone (originOf (c .before .before .before .before .before .before .before .before .before .args .ap-count) (c .before .before .before .before .before .before .before .before .before .args .own) (oldOf (c .before .before .before .before .before .before .before .before .before .args .old))) (c .before .before .before .before .before .before .before .before .before .args .ap-count) (c .before .before .before .before .before .before .before .before .before .args .timeout) (c .before .before .before .before .before .before .before .before .before .args .resend-limit) (c .before .before .before .before .before .before .before .before .before .args .own) (c .before .before .before .before .before .before .before .before .before .args .station) (c .before .before .before .before .before .before .before .before .before .args .sequence) (now (c .before .before .before .before .before .before .before .before .before .args .context)) (c .before .before .before .before .before .before .before .before .before .args .a)
-done c x e p l f g =
+done c x e p y f g =
     let s = c .before .before .before .before .before .before .before .before .before in
     let a = s .args .a in
-    join-accepted x (s .args .ap-count) (s .args .timeout) (s .args .resend-limit) (s .args .own) (s .args .station) (s .args .sequence) (now (s .args .context)) a _ p l
-    (answered (c .before) ∙ ap (λ (y : machine.Origin). firstOf (joinTests y (s .args .station) (s .args .sequence) (getPoint a))) e) (sym (c .before .number .ensures) ∙ c .if1 .left) f g
-    ∙ ap (λ (y : machine.Origin). joinDone y (s .args .ap-count) (s .args .timeout) (s .args .resend-limit) (s .args .own) (s .args .station) (s .args .sequence) (now (s .args .context)) a) (sym e ∙ c .before .before .before .before .before .before .before .origin-of .ensures)
+    join-accepted x (s .args .ap-count) (s .args .timeout) (s .args .resend-limit) (s .args .own) (s .args .station) (s .args .sequence) (now (s .args .context)) a _ p y
+    (answered (c .before) ∙ ap (λ (o : machine.Origin). firstOf (joinTests o (s .args .station) (s .args .sequence) (getPoint a))) e) (sym (c .before .number .ensures) ∙ c .if1 .left) f g
+    ∙ ap (λ (o : machine.Origin). joinDone o (s .args .ap-count) (s .args .timeout) (s .args .resend-limit) (s .args .own) (s .args .station) (s .args .sequence) (now (s .args .context)) a) (sym e ∙ c .before .before .before .before .before .before .before .origin-of .ensures)
 
 origin-of-requires : tie.Need-origin-of-requires
 origin-of-requires c κs = search needs
@@ -123,13 +122,13 @@ from-nowhere-requires c κs = (here (c .before .before), c .before .before .befo
 returns-2 : tie.Need-returns-2
 returns-2 c =
     let o = c .before .before .origin .given in
-    done (c .before .before .before .before) (machine.another (o .0 .0)) (ap originFrom (o .1)) _ _ (c .from-another .ensures ∙ point-another (o .0 .0) _ _ _ _ _ _ _ _) (sends-another (o .0 .0) _ _ _ _ _ _ _ _)
+    done (c .before .before .before .before) (machine.another (o .0 .0)) (ap originFrom (o .1)) _ _ (c .from-another .ensures ∙ point-another (o .0 .0) _ _ _ _ _ _ _ _) refl
 
 returns-3 : tie.Need-returns-3
-returns-3 c = done (c .before .before .before) machine.this (ap originFrom (c .before .enum-told .given .1)) _ _ (c .from-this .ensures ∙ point-this _ _ _ _ _ _ _ _) (sends-this _ _ _ _ _ _ _ _)
+returns-3 c = done (c .before .before .before) machine.this (ap originFrom (c .before .enum-told .given .1)) _ _ (c .from-this .ensures ∙ point-this _ _ _ _ _ _ _ _) refl
 
 returns-4 : tie.Need-returns-4
-returns-4 c = done (c .before .before .before) machine.nowhere (ap originFrom (c .before .enum-told2 .given .1)) _ _ (c .from-nowhere .ensures ∙ point-nowhere _ _ _ _ _ _ _ _) (sends-nowhere _ _ _ _ _ _ _ _)
+returns-4 c = done (c .before .before .before) machine.nowhere (ap originFrom (c .before .enum-told2 .given .1)) _ _ (c .from-nowhere .ensures ∙ point-nowhere _ _ _ _ _ _ _ _) refl
 
 pub join-spec : {M : Type 1} → statement M
 join-spec =
