@@ -132,7 +132,7 @@ all-points : {C : Type 0} (n : ℕ) (f : Network) → All (PointIn C n) (f .poin
 unfolding pointAt
 all-points n f h b = all-getD newPoint (new-in n) h b
 
-points-all : {C : Type 0} {n : ℕ} (f : Network) → Valid C n f → All (PointIn C n) (f .points)
+pub points-all : {C : Type 0} {n : ℕ} (f : Network) → Valid C n f → All (PointIn C n) (f .points)
 unfolding pointAt
 points-all f v = getD-all (f .points) newPoint (v .points)
 

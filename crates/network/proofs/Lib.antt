@@ -1,0 +1,11 @@
+-- get and put
+pub mod LensLaws
+-- refusal 14
+pub mod Refusal14
+-- a record as it is lent: what its types and 14 say
+pub mod Lent
+pub mod Sizes
+pub mod Typed
+-- what is reached from a new network: demand 3, and nothing left behind
+pub mod Reached
+pub mod Clean
