@@ -17,11 +17,10 @@ use Rattle.lists.proofs.Choices.{not-both}
 use Rattle.sequence.specs.Distance.{newerOf}
 use Rattle.elements.specs.declared.Association.{Association}
 use Rattle.elements.specs.declared.Move.{Move}
-use Rattle.machine.specs.Packets.{Outgoing, addNotify, moveNotify}
 use Rattle.machine.specs.AccessPoint as machine
 use Rattle.machine.specs.Associations.{Context, given, association, heldContext, associate}
 use Rattle.machine.specs.Moves.{Open, countsAfter, counted, opening, newMove, noticeOf}
-use Rattle.machine.specs.AccessPoint.{withAssociations, withMoves, useIdentifier, quietly, another, this, nowhere, originOf, needsMove, joinTests, joined, addNotifies, joinFrom}
+use Rattle.machine.specs.AccessPoint.{withAssociations, withMoves, useIdentifier, quietly, another, this, nowhere, originOf, needsMove, joinTests, joined, joinFrom}
 use Rattle.record.specs.declared.Associations.{Associations}
 use Rattle.record.specs.declared.Moves.{Moves}
 use Rattle.record.specs.declared.AccessPoint.{AccessPoint}
@@ -34,7 +33,7 @@ use Rattle.joining.specs.declared.Origin.{Origin}
 use Rattle.joining.specs.declared.Origin.the-variants.{Another, This, Nowhere}
 use Rattle.joining.specs.declared.Notice.{Notice}
 use Rattle.joining.specs.declared.Notice.the-variants.{Silent}
-use Rattle.joining.specs.Join.{Done, sendsBy, noticeFrom, originFrom, joinDone, movesTests, testsAt, movingFrom}
+use Rattle.joining.specs.Join.{sendsBy, noticeFrom, originFrom, joinDone, movesTests, testsAt, movingFrom}
 
 -- the tests, one after the other
 

@@ -6,7 +6,7 @@ use mathlib.Core.Bool.{Bool, true, cond}
 use mathlib.Core.Path.{_≡_, refl, sym, ap, _∙_}
 use mathlib.Core.List.{List, [], _∷_, map, reverse, reverseAux}
 use native.Mathlib.Omega.{arith}
-use lib.ListN.{length, getD, replicate, length-map, length-replicate}
+use lib.ListN.{length, replicate, length-map, length-replicate}
 use Rattle.lists.specs.Places.{All, nil, cons}
 use Rattle.lists.proofs.Every.{all-map}
 use Rattle.machine.specs.AccessPoint as machine
@@ -15,7 +15,7 @@ use Rattle.machine.specs.Events.{Event, Formed, Outcome, givenUp, step}
 use Rattle.machine.specs.Valid.{validSetup}
 use Rattle.machine.specs.History.{World, after, run, begin}
 use Rattle.machine.specs.Joins.{answersOf}
-use Rattle.machine.proofs.Limits.{PointIn, Valid}
+use Rattle.machine.proofs.Limits.{Valid}
 use Rattle.machine.proofs.Valid.{SetupIn, setup-in, valid-step, valid-begin, valid-after, valid-run}
 use Rattle.machine.proofs.Refusal14.{points-all, valid-passes}
 use Rattle.machine.proofs.Renaming.{mapOpen, mapHappened}

@@ -33,7 +33,7 @@ use Rattle.moves.specs.Asked.{asked}
 use Rattle.moves.proofs.Laws.{askedBy, earliest-asked, close-asked, earliest-at, close-at}
 use Rattle.receiving.specs.declared.Reply.{Reply}
 use Rattle.receiving.specs.declared.Handled.{Handled}
-use Rattle.receiving.specs.Receive.{repliesOf, handledOf, resultOf, handledBy, answeredBy}
+use Rattle.receiving.specs.Receive.{repliesOf, handledOf, resultOf, handledBy, noReply, emptyReply, notifyReply, replyTo, answeredBy}
 
 -- one station's association in the list rs: at place i, which is the length where there is none
 
@@ -115,13 +115,49 @@ module _ (from : ℕ) (p : Packet) (a : AccessPoint) (i : ℕ) (e : i ≡ indexB
       sym
       (rw (sequence-at (p .station) noAssociation rs, context-at (p .station) noAssociation rs, dissociate-at (p .station) rs d, ← e, lt-ltb i (length rs) h, ← f, g))
 
+-- the answer to a MOVE-notify as the code's struct
+
+module _ (s : List ℕ) (n : ℕ) (rs : List Association) (i : ℕ) (e : i ≡ indexBy (isOf s) rs) where
+  pub reply-absent : (y : Reply) → length rs ≤ i → y ≡ emptyReply 0 → y ≡ notifyReply s n rs
+  unfolding notifyReply
+  reply-absent y h f = f ∙ sym (rw (← e, le-ltb i (length rs) h))
+
+  pub reply-stale : (y : Reply) (q : ℕ) → i < length rs → q ≡ getD rs i noAssociation .sequence → newerOf n q ≡ false → y ≡ emptyReply 1 → y ≡ notifyReply s n rs
+  unfolding notifyReply
+  reply-stale y q h f g k = k ∙ sym (rw (← e, lt-ltb i (length rs) h, ← f, g))
+
+  pub reply-newer : (r : Association) → i < length rs → r ≡ getD rs i noAssociation → newerOf n (r .sequence) ≡ true
+      → record { sent = true; status = 0; len = r .«context_len»; context = r .context } ≡ notifyReply s n rs
+  unfolding notifyReply
+  reply-newer r h f g = sym (rw (← e, lt-ltb i (length rs) h, ← f, g))
+
+-- by the command
+module _ (c : ℕ) (s : List ℕ) (n : ℕ) (rs : List Association) where
+  pub reply-by-0 : c ≡ 0 → noReply ≡ replyTo c s n rs
+  unfolding replyTo
+  reply-by-0 e = sym (rw e)
+
+  pub reply-by-1 : c ≡ 1 → notifyReply s n rs ≡ replyTo c s n rs
+  unfolding replyTo
+  reply-by-1 e = sym (rw e)
+
+  pub reply-by-2 : c ≡ 2 → noReply ≡ replyTo c s n rs
+  unfolding replyTo
+  reply-by-2 e = sym (rw e)
+
 -- an answer, and what it sends
 
-pub reply-sent : (from : ℕ) (p : Packet) (r : Reply) (t : ℕ) → r .sent ≡ true → r .status ≡ t → r .len ≡ 0 → repliesOf from p r ≡ answerTo from p (messageOf 2 t []) ∷ []
-reply-sent from p r t f g h = rw (f, g, h)
+pub reply-sent : (from : ℕ) (p : Packet) (r : Reply) (t : ℕ) → r ≡ emptyReply t → repliesOf from p r ≡ answerTo from p (messageOf 2 t []) ∷ []
+reply-sent from p r t f = rw f
 
-pub reply-none : (from : ℕ) (p : Packet) (r : Reply) → r .sent ≡ false → repliesOf from p r ≡ []
-reply-none from p r f = rw f
+pub none-sent : (r : Reply) → r ≡ noReply → r .sent ≡ false
+none-sent r f = rw f
+
+pub none-small : (r : Reply) → r ≡ noReply → r .len ≤ 64
+none-small r f = rw f (omega arith)
+
+pub empty-small : (r : Reply) (t : ℕ) → r ≡ emptyReply t → r .len ≤ 64
+empty-small r t f = rw f (omega arith)
 
 -- the result of an answer
 pub answered-as : (a : AccessPoint) (from : ℕ) (p : Packet) (x : Message) (b : machine.AccessPoint) (g : AccessPoint) (l : List Outgoing)

@@ -4,7 +4,7 @@ use reader::Received;
 use record::AccessPoint;
 use record::Associations;
 ghost use mathlib.Core.Path.{_≡_};
-ghost use mathlib.Core.Bool.{true, false};
+ghost use mathlib.Core.Bool.{true};
 ghost use Prim.Native.Nat.{_≤_, _<_};
 ghost use lib.ListN.{length};
 ghost use Rattle.lists.specs.Places.{without};
@@ -15,7 +15,7 @@ ghost use Rattle.reader.specs.Read.{readingOf};
 ghost use Rattle.machine.specs.Packets.{packetOf, messageOf};
 ghost use Rattle.record.specs.Lens.{getAssociations, putAssociations, getPoint, putPoint};
 ghost use Rattle.record.specs.Valid.{Usable};
-ghost use Rattle.receiving.specs.Receive.{answeredBy, handledOf, resultOf, handledBy};
+ghost use Rattle.receiving.specs.Receive.{noReply, emptyReply, notifyReply, replyTo, answeredBy, handledOf, resultOf, handledBy};
 
 // An answer to a MOVE-notify: whether there is one, its status, and its context in the first len octets.
 pub struct Reply {
@@ -31,7 +31,7 @@ pub struct Handled {
 }
 
 fn no_reply() -> Reply
-    ensures { λ r. ⌜ (r .sent ≡ false) × (r .len ≡ 0) ⌝ }
+    ensures { λ r. ⌜ r ≡ noReply ⌝ }
 {
     Reply {
         sent: false,
@@ -43,7 +43,7 @@ fn no_reply() -> Reply
 
 // An answer with no context.
 fn empty_reply(status: u8) -> Reply
-    ensures { λ r. ⌜ (r .sent ≡ true) × (r .status ≡ status) × (r .len ≡ 0) ⌝ }
+    ensures { λ r. ⌜ r ≡ emptyReply status ⌝ }
 {
     Reply {
         sent: true,
@@ -107,6 +107,7 @@ fn receive_notify(
     requires { ⌜ Usable a ⌝ }
     ensures { λ r. ⌜ handledOf from (asked identifier station sequence) r ≡ resultOf a (receiveNotify from (asked identifier station sequence) (getPoint a)) ⌝ }
     ensures { λ r. ⌜ r .reply .len ≤ 64 ⌝ }
+    ensures { λ r. ⌜ r .reply ≡ notifyReply station sequence (getAssociations (a .associations)) ⌝ }
 {
     let t = a.associations;
     let i = associations::find(t, station);
@@ -196,12 +197,14 @@ fn receive_response(
     }
 }
 
-// A packet from the AP `from` that the reader accepted, with its context block.
+// A packet from the AP `from` that the reader accepted, with its context block. The record and what is sent are the machine's; the
+// answer is fixed as a struct too, so that no part of it is left open.
 pub fn receive(a: AccessPoint, from: u8, r: Received, context: &[u8]) -> Handled
     requires { ⌜ Usable a ⌝ }
     requires { ⌜ length (now context) ≤ 64 ⌝ }
     ensures { λ h. ⌜ handledOf from (packetOf (readingOf r) (now (context .entry))) h ≡ handledBy from (packetOf (readingOf r) (now (context .entry))) a ⌝ }
     ensures { λ h. ⌜ h .reply .len ≤ 64 ⌝ }
+    ensures { λ h. ⌜ h .reply ≡ replyTo (readingOf r .command) (readingOf r .station) (readingOf r .sequence) (getAssociations (a .associations)) ⌝ }
 {
     let command = r.command;
     let station = r.station;

@@ -53,7 +53,7 @@ returns-2 c =
     let p = packetOf (readingOf (s .args .r)) (now (s .args .context)) in
     let y = h .result .reply in
     rw (c .refused .ensures)
-    (answer-refused (s .args .l) (s .args .from) p (now (s .args .buffer)) (h .result .point) y (h .ensures .0) (not-false (y .sent) (c .before .before .before .before .before .before .before .if1 .left)) (fine (y .status) (take (y .len) (y .context)) _ (station-size s) (s .pre .2) (omega (arith, length-take (y .len) (y .context), h .ensures .1)))
+    (answer-refused (s .args .l) (s .args .from) p (now (s .args .buffer)) (h .result .point) y (h .ensures .0) (not-false (y .sent) (c .before .before .before .before .before .before .before .if1 .left)) (fine (y .status) (take (y .len) (y .context)) _ (station-size s) (s .pre .2) (omega (arith, length-take (y .len) (y .context), h .ensures .1 .0)))
     (writingOf (c .before .before .before .before .before .write-reply .result) _) (c .before .before .before .before .before .write-reply .ensures) (λ n. c .before .if2 .taken (c .before .before .number .ensures ∙ n)))
 
 accepted-requires-2 : tie.Need-accepted-requires-2
@@ -70,7 +70,7 @@ returns-3 c =
     let p = packetOf (readingOf (s .args .r)) (now (s .args .context)) in
     let y = h .result .reply in
     rw (c .accepted2 .ensures)
-    (answer-written (s .args .l) (s .args .from) p (now (s .args .buffer)) (h .result .point) y (h .ensures .0) (not-false (y .sent) (c .before .before .before .before .before .before .before .if1 .left)) (fine (y .status) (take (y .len) (y .context)) _ (station-size s) (s .pre .2) (omega (arith, length-take (y .len) (y .context), h .ensures .1)))
+    (answer-written (s .args .l) (s .args .from) p (now (s .args .buffer)) (h .result .point) y (h .ensures .0) (not-false (y .sent) (c .before .before .before .before .before .before .before .if1 .left)) (fine (y .status) (take (y .len) (y .context)) _ (station-size s) (s .pre .2) (omega (arith, length-take (y .len) (y .context), h .ensures .1 .0)))
     (writingOf (c .before .before .before .before .before .write-reply .result) _) (c .before .before .before .before .before .write-reply .ensures) (sym (c .before .before .number .ensures) ∙ c .before .if2 .left))
 
 pub answer-packet-spec : {M : Type 1} → statement M

@@ -17,7 +17,7 @@ use Rattle.record.specs.Lens.{getAssociations, getPoint}
 use Rattle.record.specs.Slots.{noAssociation}
 use Rattle.moves.specs.Asked.{asked}
 use Rattle.receiving.specs.Receive.{resultOf}
-use Rattle.receiving.proofs.Laws.{answered-as, reply-sent, notify-none, notify-stale, notify-newer}
+use Rattle.receiving.proofs.Laws.{answered-as, reply-sent, empty-small, reply-absent, reply-stale, reply-newer, notify-none, notify-stale, notify-newer}
 use Rattle.receiving.proofs.receive_notify.Statement.{statement}
 use Rattle.receiving.proofs.receive_notify.Tie as tie
 
@@ -40,9 +40,9 @@ returns c =
     let l = associations-length (a .associations) (z .associations) in
     let f = c .before .before .find in
     let r = c .empty-reply .ensures in (
-      answered-as a (s .args .from) (asked (s .args .identifier) (s .args .station) (s .args .sequence)) (messageOf 2 0 []) (getPoint a) _ _ (sym (point-kept a z)) (reply-sent (s .args .from) (asked (s .args .identifier) (s .args .station) (s .args .sequence)) _ 0 (r .0) (r .1) (r .2))
+      answered-as a (s .args .from) (asked (s .args .identifier) (s .args .station) (s .args .sequence)) (messageOf 2 0 []) (getPoint a) _ _ (sym (point-kept a z)) (reply-sent (s .args .from) (asked (s .args .identifier) (s .args .station) (s .args .sequence)) _ 0 r)
           ∙ ap (resultOf a) (notify-none (s .args .from) (asked (s .args .identifier) (s .args .station) (s .args .sequence)) a (f .result) (f .ensures) (omega arith)),
-      omega (arith, r .2),
+      (empty-small _ 0 r, reply-absent (s .args .station) (s .args .sequence) rs (f .result) (f .ensures) _ (omega arith) r),
     )
 
 mul-row : tie.Need-mul-row
@@ -65,10 +65,12 @@ returns-2 c =
     let z = fits a _ (s .good .0) (s .pre) in
     let l = associations-length (a .associations) (z .associations) in
     let f = c .before .before .before .before .before .find in
-    let r = c .empty-reply2 .ensures in (
-      answered-as a (s .args .from) (asked (s .args .identifier) (s .args .station) (s .args .sequence)) (messageOf 2 1 []) (getPoint a) _ _ (sym (point-kept a z)) (reply-sent (s .args .from) (asked (s .args .identifier) (s .args .station) (s .args .sequence)) _ 1 (r .0) (r .1) (r .2))
-          ∙ ap (resultOf a) (notify-stale (s .args .from) (asked (s .args .identifier) (s .args .station) (s .args .sequence)) a (f .result) (f .ensures) _ (omega arith) (ap (λ (r : Association). r .sequence) (association-at (a .associations) (f .result) noAssociation _ (omega arith) (z .associations))) (sym (c .before .before .newer .ensures) ∙ not-true _ (c .before .if2 .taken))),
-      omega (arith, r .2),
+    let r = c .empty-reply2 .ensures in
+    let q = ap (λ (r : Association). r .sequence) (association-at (a .associations) (f .result) noAssociation past (omega arith) (z .associations)) in
+    let n = sym (c .before .before .newer .ensures) ∙ not-true _ (c .before .if2 .taken) in (
+      answered-as a (s .args .from) (asked (s .args .identifier) (s .args .station) (s .args .sequence)) (messageOf 2 1 []) (getPoint a) _ _ (sym (point-kept a z)) (reply-sent (s .args .from) (asked (s .args .identifier) (s .args .station) (s .args .sequence)) _ 1 r)
+          ∙ ap (resultOf a) (notify-stale (s .args .from) (asked (s .args .identifier) (s .args .station) (s .args .sequence)) a (f .result) (f .ensures) _ (omega arith) q n),
+      (empty-small _ 1 r, reply-stale (s .args .station) (s .args .sequence) rs (f .result) (f .ensures) _ _ (omega arith) q n r),
     )
 
 drop-association-requires : tie.Need-drop-association-requires
@@ -82,11 +84,13 @@ returns-3 c =
     let z = fits a _ (s .good .0) (s .pre) in
     let l = associations-length (a .associations) (z .associations) in
     let f = c .before .before .before .before .before .before .find in
-    let r = getD (a .associations .items) (f .result) past in (
+    let r = getD (a .associations .items) (f .result) past in
+    let q = association-at (a .associations) (f .result) noAssociation past (omega arith) (z .associations) in
+    let n = sym (c .before .before .before .newer .ensures) ∙ not-false _ (c .before .before .if2 .left) in (
       answered-as a (s .args .from) (asked (s .args .identifier) (s .args .station) (s .args .sequence)) (messageOf 2 0 (take (r .«context_len») (r .context))) (withAssociations (without (f .result) rs) (getPoint a)) _ _ (c .drop-association .ensures) refl
           ∙ ap (resultOf a)
-          (notify-newer (s .args .from) (asked (s .args .identifier) (s .args .station) (s .args .sequence)) a (f .result) (f .ensures) r (omega arith) (association-at (a .associations) (f .result) noAssociation past (omega arith) (z .associations)) (sym (c .before .before .before .newer .ensures) ∙ not-false _ (c .before .before .if2 .left)) (s .pre .distinct-stations)),
-      rw (association-at (a .associations) (f .result) noAssociation past (omega arith) (z .associations)) (context-within rs (f .result) noAssociation (s .pre .limits) (omega arith)),
+          (notify-newer (s .args .from) (asked (s .args .identifier) (s .args .station) (s .args .sequence)) a (f .result) (f .ensures) r (omega arith) q n (s .pre .distinct-stations)),
+      (rw q (context-within rs (f .result) noAssociation (s .pre .limits) (omega arith)), reply-newer (s .args .station) (s .args .sequence) rs (f .result) (f .ensures) r (omega arith) q n),
     )
 
 pub receive-notify-spec : {M : Type 1} → statement M
