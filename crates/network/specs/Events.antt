@@ -1,15 +1,19 @@
 -- Refusal 14 of a network's record, an event on the record, and a list of events.
 use Prim.Native.Nat.{ℕ}
-use mathlib.Core.Bool.{Bool, cond, _&&_}
+use mathlib.Core.Bool.{Bool, true, cond, _&&_}
+use mathlib.Core.Path.{_≡_, refl}
 use mathlib.Core.List.{List, [], _∷_}
 use lib.Dec.{leb}
 use lib.ListN.{take}
 use Rattle.lists.specs.Places.{every}
-use Rattle.machine.specs.Events.{Event, Outcome, givenUp, step}
-use Rattle.machine.specs.Valid.{validInFlight, validSetup}
+use Rattle.machine.specs.Moves.{Open}
+use Rattle.machine.specs.Network as floor
+use Rattle.machine.specs.Events.{Event, tick, Outcome, givenUp, step}
+use Rattle.machine.specs.Valid.{distinct, validPoint, validInFlight, validSetup}
+use Rattle.record.specs.Lens.{getAssociations, getMoves, getPoint}
 use Rattle.record.specs.Valid.{validRecord}
 use Rattle.network.specs.declared.Network.{Network}
-use Rattle.network.specs.Lens.{getInFlight, get, put}
+use Rattle.network.specs.Lens.{getInFlight, get, put, newPoint, newNetwork}
 
 -- 14 does not apply: "a used length, size, AP count, T, R, sequence number, ticks or resends left, or AP number", "two rows of
 -- one station at one AP", "a packet in the air that the reader refuses"
@@ -58,3 +62,29 @@ runOf w (e ∷ es) = runOf (eventOf w e .network) es
 unfoldable pub linesOf : Network → List Event → List Line
 linesOf w [] = []
 linesOf w (e ∷ es) = eventOf w e .line ∷ linesOf (eventOf w e .network) es
+
+-- examples
+
+-- one move given up is told
+module _ (m : Open) (f : floor.Network) where
+  pub one-given-up : lineOf (record { answer = 0; sent = 0; at = 0; happened = record { opened = []; resent = []; answered = []; «given_up» = m ∷ [] }; held = 0; tables = 0; network = f }) .«given_up» ≡ 1
+  unfolding lineOf givenUp
+  one-given-up = refl
+
+-- a record of 9 APs gets 14, also for a tick at an AP that is not there, whose number is 11
+pub first-14 : eventOf (newNetwork 9 1 0) (tick 200) ≡ refused 14 (newNetwork 9 1 0)
+unfolding eventOf validNetworkRecord validSetup floor.setupTests newNetwork
+first-14 = refl
+
+-- one AP, and past the AP count a point with 9 moves: 14 does not look there
+pub unused-passes : validNetworkRecord
+    (record {
+      «ap_count» = 1;
+      timeout = 1;
+      «resend_limit» = 0;
+      points = newPoint ∷ record { associations = newPoint .associations; moves = record { items = []; count = 9 }; «next_identifier» = 0; opened = 0; resent = 0; answered = 0; «given_up» = 0 } ∷ [];
+      «in_flight» = record { items = []; count = 0 };
+    })
+    ≡ true
+unfolding validNetworkRecord validSetup floor.setupTests every validRecord validPoint distinct newPoint getPoint getAssociations getMoves getInFlight
+unused-passes = refl

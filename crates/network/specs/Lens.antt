@@ -1,6 +1,7 @@
 -- The record of a network and the machine's network: `get` takes the used parts, `put` writes them back. The slots that became
 -- free are blank, and the others are kept, as are the access points past the AP count.
 use Prim.Native.Nat.{ℕ}
+use mathlib.Core.Path.{_≡_, refl}
 use mathlib.Core.List.{List, [], _∷_, map}
 use lib.ListN.{length, take, replicate}
 use Rattle.elements.specs.declared.InFlight.{InFlight}
@@ -77,3 +78,20 @@ newNetwork n t r =
       points = replicate 8 newPoint;
       «in_flight» = record { items = replicate 64 noInFlight; count = 0 };
     }
+
+-- examples, with a packet of one octet
+
+abbrev packet : InFlight
+packet = record { from = 0; to = 1; len = 1; octets = 7 ∷ replicate 81 0 }
+
+pub new-blank : newNetwork 2 1 0 .«in_flight» .items ≡ replicate 64 noInFlight
+unfolding newNetwork
+new-blank = refl
+
+pub freed-blank : putInFlight (record { items = packet ∷ packet ∷ []; count = 2 }) (packet ∷ []) ≡ record { items = packet ∷ noInFlight ∷ []; count = 1 }
+unfolding putInFlight over
+freed-blank = refl
+
+pub packets-put : getInFlight (put (newNetwork 2 1 0) (record { points = []; «in_flight» = packet ∷ []; timeout = 1; «resend_limit» = 0 }) .«in_flight») ≡ packet ∷ []
+unfolding put putInFlight getInFlight over newNetwork
+packets-put = refl

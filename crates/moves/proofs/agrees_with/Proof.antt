@@ -9,7 +9,7 @@ use Rattle.moves.proofs.agrees_with.Tie as tie
 
 returns : tie.Need-returns
 unfolding agrees
-returns c = sym (rw (ne-eqb _ _ (c .if1 .taken)))
+returns c = sym (rw (ne-eqb (c .before .before .args .identifier) (c .before .before .args .m .identifier) (c .if1 .taken)))
 
 same-station-requires : tie.Need-same-station-requires
 same-station-requires c κs = search needs
