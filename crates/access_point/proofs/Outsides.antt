@@ -14,7 +14,6 @@ use Rattle.reader.specs.Read.{readOf, contextOf}
 use Rattle.machine.specs.Packets.{packetOf}
 use Rattle.machine.specs.AccessPoint.{Action, receive}
 use Rattle.machine.specs.Valid.{validSetup}
-use Rattle.machine.specs.Lone as machine
 use Rattle.machine.specs.Lone.{validLone, actionOn, writtenAll, outsideTests, withPoint, outside}
 use Rattle.record.specs.declared.LoneAccessPoint.{LoneAccessPoint}
 use Rattle.record.specs.Lens.{getPoint, putPoint, getLone, putLone}

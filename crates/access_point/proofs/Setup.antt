@@ -1,12 +1,16 @@
--- The test of an AP alone, one limit after the other.
+-- The test of a set-up, one limit after the other.
 -- Assumes nothing.
 use Prim.Native.Nat.{ℕ, _≤_, _<_}
 use mathlib.Core.Path.{_≡_}
-use mathlib.Core.Bool.{true, false}
+use mathlib.Core.Bool.{false, cond}
+use mathlib.Core.Logic.{_⊎_, inl, inr}
 use native.Mathlib.Omega.{arith}
-use borrow.Author.Tests.{lt-ltb, le-ltb, ne-eqb}
+use borrow.Author.Tests.{lt-ltb, le-ltb, lt-leb, le-leb, ne-eqb}
+use lib.Dec.{ltb, leb}
+use Rattle.lists.specs.Table.{accepts}
 use Rattle.machine.specs.Network.{setupTests}
 use Rattle.machine.specs.Valid.{validSetup}
+use Rattle.record.proofs.Over.{le-or}
 
 -- set-up is refused by the first limit that is not kept
 pub no-points : (k t r : ℕ) → k ≡ 0 → validSetup k t r ≡ false
@@ -21,10 +25,11 @@ pub no-timeout : (k t r : ℕ) → (k ≡ 0 → ⊥) → k ≤ 8 → t ≡ 0 →
 unfolding validSetup setupTests
 no-timeout k t r a b e = rw (ne-eqb k 0 a, le-ltb 8 k b, e)
 
-pub many-resends : (k t r : ℕ) → (k ≡ 0 → ⊥) → k ≤ 8 → (t ≡ 0 → ⊥) → t < 65536 → 7 < r → validSetup k t r ≡ false
+-- R alone decides where the others are kept
+pub resends-decide : (k t r : ℕ) → (k ≡ 0 → ⊥) → k ≤ 8 → (t ≡ 0 → ⊥) → t < 65536 → leb r 7 ≡ validSetup k t r
 unfolding validSetup setupTests
-many-resends k t r a b e f h = rw (ne-eqb k 0 a, le-ltb 8 k b, ne-eqb t 0 e, le-ltb 65535 t (omega arith), lt-ltb 7 r h)
-
-pub setup-kept : (k t r : ℕ) → (k ≡ 0 → ⊥) → k ≤ 8 → (t ≡ 0 → ⊥) → t < 65536 → r ≤ 7 → validSetup k t r ≡ true
-unfolding validSetup setupTests
-setup-kept k t r a b e f h = rw (ne-eqb k 0 a, le-ltb 8 k b, ne-eqb t 0 e, le-ltb 65535 t (omega arith), le-ltb 7 r h)
+resends-decide k t r a b e f = rw (ne-eqb k 0 a, le-ltb 8 k b, ne-eqb t 0 e, le-ltb 65535 t (omega arith)) (go (le-or r 7))
+  where
+    go : (r ≤ 7) ⊎ (7 < r) → leb r 7 ≡ accepts (cond (ltb 7 r) 14 0)
+    go (inl h) = rw (le-leb r 7 h, le-ltb 7 r h)
+    go (inr h) = rw (lt-leb r 7 h, lt-ltb 7 r h)

@@ -9,7 +9,6 @@ use Rattle.packet.specs.Fields.{Fields}
 use Rattle.reader.specs.declared.Received.{Received}
 use Rattle.machine.specs.Packets.{Packet, fieldsAs, messageOf}
 use Rattle.machine.specs.AccessPoint.{receive}
-use Rattle.machine.specs.Lone as machine
 use Rattle.machine.specs.Lone.{LoneAnswer, writtenAll, outside}
 use Rattle.record.specs.declared.AccessPoint.{AccessPoint}
 use Rattle.record.specs.declared.LoneAccessPoint.{LoneAccessPoint}

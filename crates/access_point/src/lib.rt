@@ -15,6 +15,7 @@ ghost use Rattle.answers.specs.declared.Answer.the-variants.{Accepted};
 ghost use Rattle.reader.specs.Read.{readingOf};
 ghost use Rattle.writer.specs.Write.{writingOf, writeTo};
 ghost use Rattle.machine.specs.Packets.{packetOf};
+ghost use Rattle.machine.specs.Valid.{validSetup};
 ghost use Rattle.record.specs.Valid.{validRecord, validLoneRecord, Usable};
 ghost use Rattle.access_point.specs.Tick.{tickDone};
 ghost use Rattle.access_point.specs.Outside.{withRecord, replyFields, outsideOf, answerDone, outsideDone};
@@ -45,20 +46,27 @@ pub fn valid(a: AccessPoint, ap_count: u8) -> bool
     moves::valid(m, ap_count)
 }
 
-// The same of an AP alone, with its own number, AP count, T and R.
+// Whether AP count, T and R are within document 01's limits: 14 does not apply to a set-up with them.
+pub fn valid_setup(ap_count: u16, timeout: u16, resend_limit: u16) -> bool
+    ensures { λ r. ⌜ r ≡ validSetup «ap_count» timeout «resend_limit» ⌝ }
+{
+    if ap_count == 0 {
+        return false;
+    }
+    if 8 < ap_count {
+        return false;
+    }
+    if timeout == 0 {
+        return false;
+    }
+    resend_limit <= 7
+}
+
+// The same as `valid` of an AP alone, with its own number, AP count, T and R.
 pub fn valid_lone(l: LoneAccessPoint) -> bool
     ensures { λ r. ⌜ r ≡ validLoneRecord l ⌝ }
 {
-    if l.ap_count == 0 {
-        return false;
-    }
-    if 8 < l.ap_count {
-        return false;
-    }
-    if l.timeout == 0 {
-        return false;
-    }
-    if 7 < l.resend_limit {
+    if !valid_setup(l.ap_count as u16, l.timeout, l.resend_limit as u16) {
         return false;
     }
     if l.ap_count <= l.number {
@@ -112,7 +120,7 @@ fn accepted(l: LoneAccessPoint, point: AccessPoint, len: usize) -> Answered
 }
 
 // Writes the answer to a packet: a MOVE-response with its status and, where it is SUCCESSFUL, its context.
-fn write_reply(r: Received, reply: Reply, buffer: &mut [u8]) -> Written
+pub fn write_reply(r: Received, reply: Reply, buffer: &mut [u8]) -> Written
     requires { ⌜ reply .len ≤ 64 ⌝ }
     ensures { λ w. ⌜ writingOf w (now (buffer .exit)) ≡ writeTo (replyFields r reply) (now (buffer .entry)) ⌝ }
 {

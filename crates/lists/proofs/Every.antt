@@ -1,12 +1,15 @@
--- What holds of every element of a list, after each change of the list; and one element set.
+-- What holds of every element of a list, after each change of the list; one element set; and a test of every element.
 -- Assumes nothing.
-use Prim.Native.Nat.{ℕ, zero, suc, _≤_}
+use Prim.Native.Nat.{ℕ, zero, suc, _+_, _≤_, _<_}
 use mathlib.Core.Path.{_≡_, refl, ap, subst}
-use mathlib.Core.List.{List, [], _∷_, _++_}
+use mathlib.Core.List.{List, [], _∷_, _++_, map}
 use mathlib.Core.Option.{some}
-use mathlib.Core.Bool.{Bool, true}
+use mathlib.Core.Bool.{Bool, true, _&&_}
 use native.Mathlib.Omega.{arith}
-use lib.ListN.{length, getD, set, take, drop, replicate}
+use native.Mathlib.Nat.{not-suc-le-zero, le-of-suc-le-suc}
+use native.Mathlib.Numerals.{add-one}
+use lib.ListN.{length, getD, set, take, drop, replicate, drop-of-length-le}
+use lib.Seq.{drop-cons}
 use Rattle.lists.specs.Places.{nth, without, every, All, nil, cons}
 use Rattle.lists.proofs.Choices.{and-left, and-right, and-true, not-some, some-inj}
 
@@ -41,6 +44,11 @@ unfolding nth
 all-nth k [] x e nil = not-some refl e
 all-nth {P = P} zero (y ∷ ys) x e (cons h hs) = subst P (some-inj refl e) h
 all-nth (suc k) (y ∷ ys) x e (cons h hs) = all-nth k ys x e hs
+
+pub all-at : {A : Type 0} {P : A → Type 0} (xs : List A) (i : ℕ) (d : A) → All P xs → i < length xs → P (getD xs i d)
+all-at [] i d nil h = absurd (not-suc-le-zero h)
+all-at (x ∷ xs) zero d (cons p ps) h = p
+all-at (x ∷ xs) (suc i) d (cons p ps) h = all-at xs i d ps (le-of-suc-le-suc h)
 
 pub all-without : {A : Type 0} {P : A → Type 0} (k : ℕ) (xs : List A) → All P xs → All P (without k xs)
 unfolding without
@@ -77,3 +85,18 @@ pub getD-set-own : {A : Type 0} (P : A → Type 0) (xs : List A) (b : ℕ) (x d 
 getD-set-own P [] b x d h k = k
 getD-set-own P (y ∷ ys) zero x d h k = h
 getD-set-own P (y ∷ ys) (suc b) x d h k = getD-set-own P ys b x d h k
+
+-- a test of every element, one after the other
+
+pub every-map : {A B : Type 0} (f : A → B) (p : B → Bool) (xs : List A) → every p (map f xs) ≡ every (λ x. p (f x)) xs
+unfolding every
+every-map f p [] = refl
+every-map f p (x ∷ xs) = ap (_&&_ (p (f x))) (every-map f p xs)
+
+pub every-next : {A : Type 0} (p : A → Bool) (d : A) (xs : List A) (i : ℕ) → i < length xs → every p (drop i xs) ≡ p (getD xs i d) && every p (drop (i + 1) xs)
+unfolding every
+every-next p d xs i l = rw (add-one i, drop-cons xs i d)
+
+pub every-end : {A : Type 0} (p : A → Bool) (xs : List A) (i : ℕ) → length xs ≤ i → every p (drop i xs) ≡ true
+unfolding every
+every-end p xs i l = rw (drop-of-length-le xs l)

@@ -1,4 +1,3 @@
 pub mod Laws
 pub mod Slots
 pub mod Ticking
-pub mod Each

@@ -127,11 +127,11 @@ put-new n t r f g e h k =
 
 -- What was got is put back
 
-in-flight-kept : (t : InFlights) → t .count ≤ length (t .items) → putInFlight t (getInFlight t) ≡ t
+pub in-flight-kept : (t : InFlights) → t .count ≤ length (t .items) → putInFlight t (getInFlight t) ≡ t
 unfolding getInFlight putInFlight
 in-flight-kept t h = rw (over-take noInFlight (t .count) (t .items) h, length-take-le (t .count) (t .items) h)
 
-points-kept : (n : ℕ) (xs : List AccessPoint) → All Fits (take n xs) → putPoints xs (map getPoint (take n xs)) ≡ xs
+pub points-kept : (n : ℕ) (xs : List AccessPoint) → All Fits (take n xs) → putPoints xs (map getPoint (take n xs)) ≡ xs
 unfolding putPoints
 points-kept zero xs h = refl
 points-kept (suc n) [] h = refl

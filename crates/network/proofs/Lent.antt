@@ -58,7 +58,7 @@ valid-fits w z e =
     }
 
 -- as many access points as the AP count
-got-count : (w : Network) → NetworkFits w → length (get w .points) ≡ w .«ap_count»
+pub got-count : (w : Network) → NetworkFits w → length (get w .points) ≡ w .«ap_count»
 unfolding get
 got-count w z = length-map (take (w .«ap_count») (w .points)) getPoint ∙ length-take-le (w .«ap_count») (w .points) (z .count)
 

@@ -10,12 +10,12 @@ use native.Mathlib.Omega.{arith}
 use lib.ListN.{length, drop, getD, take, length-map}
 use lib.Seq.{length-take-le}
 use Rattle.lists.specs.Places.{every}
+use Rattle.lists.proofs.Every.{every-map, every-next, every-end}
 use Rattle.lists.proofs.Search.{getD-used}
 use Rattle.elements.specs.declared.Move.{Move}
 use Rattle.machine.specs.Valid.{validMove}
 use Rattle.record.specs.Lens.{getMoves, named}
 use Rattle.moves.proofs.Slots.{past}
-use Rattle.moves.proofs.Each.{every-map, every-at, every-end}
 use Rattle.moves.proofs.valid.Statement.{statement}
 use Rattle.moves.proofs.valid.Tie as tie
 
@@ -64,7 +64,7 @@ step c =
     let l = enough s (h .before .if1 .left) in
     let q : i < length (used s) = omega (arith, length-take-le (s .args .t1 .count) (s .args .t1 .items) l) in
     let k : i < s .args .t1 .count = omega arith in
-    h .loop .inv .1 ∙ every-at (test (s .args .ap-count)) past (used s) i q ∙ rw (getD-used (s .args .t1 .count) (s .args .t1 .items) i past past k l)
+    h .loop .inv .1 ∙ every-next (test (s .args .ap-count)) past (used s) i q ∙ rw (getD-used (s .args .t1 .count) (s .args .t1 .items) i past past k l)
 
 returns-2 : tie.Need-returns-2 Inv-loop μ-loop
 unfolding getMoves

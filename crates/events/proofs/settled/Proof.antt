@@ -1,0 +1,36 @@
+-- `events::settled` meets its contract: where a packet is taken out, what is sent is put over what is left.
+-- Assumes nothing.
+use mathlib.Core.Path.{_∙_}
+use borrow.Author.Needs.{needs}
+use Rattle.in_flight.specs.Post.{getOutbox}
+use Rattle.events.specs.Apart.{settledBy}
+use Rattle.events.proofs.Taken.{taken-few, taken-posted}
+use Rattle.events.proofs.settled.Statement.{statement}
+use Rattle.events.proofs.settled.Tie as tie
+
+remove-requires : tie.Need-remove-requires
+remove-requires c κs =
+    let s = c .before in
+    (s .pre .0, s .pre .2 (c .if1 .taken))
+
+post-requires : tie.Need-post-requires
+post-requires c κs =
+    let s = c .before .before in
+    (taken-few (s .args .t) (s .args .k) (c .remove .result) (c .remove .ensures) (s .pre .0), s .pre .1)
+
+returns : tie.Need-returns
+unfolding settledBy
+returns c =
+    let s = c .before .before .before in
+    rw (c .before .before .if1 .taken)
+    (c .post .ensures ∙ taken-posted (s .args .t) (s .args .k) (getOutbox (s .args .sent)) (c .before .remove .result) (c .before .remove .ensures))
+
+post-requires-2 : tie.Need-post-requires-2
+post-requires-2 c κs = search needs
+
+returns-2 : tie.Need-returns-2
+unfolding settledBy
+returns-2 c = rw (c .before .if1 .left) (c .post2 .ensures)
+
+pub settled-spec : {M : Type 1} → statement M
+settled-spec = tie.close (tie.spec remove-requires post-requires returns post-requires-2 returns-2)

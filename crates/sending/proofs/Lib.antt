@@ -1,0 +1,3 @@
+pub mod Carried
+pub mod Outboxes
+pub mod Notices
