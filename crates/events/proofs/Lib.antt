@@ -1,8 +1,11 @@
-pub mod Stored
+-- what a valid record grants, and the packet and access point that an event looks at
 pub mod Within
-pub mod Performed
-pub mod Taken
-pub mod Held
-pub mod Few
 pub mod Looked
+pub mod Few
+-- what is stored is the machine's step
+pub mod Taken
+pub mod Stored
+pub mod Performed
+-- who
+pub mod Held
 pub mod Asked

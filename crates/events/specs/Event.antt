@@ -10,7 +10,7 @@ use Rattle.events.specs.declared.Kind.{Kind}
 use Rattle.events.specs.declared.Kind.the-variants.{Join, Leave, Deliver, Repeat, Lose, Tick, Who}
 use Rattle.events.specs.declared.Event.{Event}
 
--- an event of each kind. "What an event has no use for is ignored": leave has no sequence number, and so on
+-- an event of each kind. What it has no use for is ignored: a leave has no sequence number, and so on
 abbrev pub eventAs : Kind → ℕ → Station → ℕ → Option ℕ → List ℕ → machine.Event
 eventAs Join b s n old c = machine.join b s n old c
 eventAs Leave b s n old c = machine.leave b s
