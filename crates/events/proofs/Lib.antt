@@ -9,3 +9,5 @@ pub mod Performed
 -- who
 pub mod Held
 pub mod Asked
+-- the same of all seven, for a loop that holds the record
+pub mod Turned

@@ -4,21 +4,23 @@ use Prim.Native.Nat.{ℕ}
 use mathlib.Core.Bool.{Bool, false, cond}
 use mathlib.Core.List.{List}
 use mathlib.Core.Option.{Option}
+use lib.Count.{ones}
 use lib.Dec.{ltb}
 use lib.ListN.{set}
 use Rattle.lists.specs.Places.{without}
 use Rattle.elements.specs.declared.InFlight.{InFlight}
-use Rattle.machine.specs.Stations.{Station}
+use Rattle.machine.specs.Stations.{Station, isGroup}
 use Rattle.record.specs.declared.AccessPoint.{AccessPoint}
 use Rattle.network.specs.declared.InFlights.{InFlights}
 use Rattle.network.specs.declared.Network.{Network}
 use Rattle.network.specs.Lens.{getInFlight, putInFlight}
-use Rattle.network.specs.Events.{Reply}
+use Rattle.network.specs.Events.{Line, Reply}
 use Rattle.in_flight.specs.declared.Outbox.{Outbox}
 use Rattle.in_flight.specs.Post.{getOutbox, posted}
 use Rattle.actions.specs.Done.{Done, unchangedBy, joinOf, leaveOf, tickOf, receiveOf, loseOf}
 use Rattle.events.specs.declared.Kind.{Kind}
 use Rattle.events.specs.declared.Kind.the-variants.{Join, Leave, Deliver, Repeat, Lose, Tick, Who}
+use Rattle.events.specs.Event.{isWho}
 
 -- the packet of m in flight that the event is about, 0 where it is about none
 abbrev pub packetFor : Kind → ℕ → ℕ → ℕ
@@ -78,3 +80,11 @@ storedBy w b taken i x =
         «in_flight» = settledBy taken i (x .sent) (w .«in_flight»);
       };
     }
+
+-- what is answered where an access point's part is the number a, n packets sent and g moves given up, and h the mask of those that hold the
+-- station: a who is answered by the mask alone
+abbrev pub answeredBy : Kind → Station → ℕ → ℕ → ℕ → ℕ → Line
+answeredBy k s a n g h =
+    cond (isWho k)
+    (cond (isGroup s) (record { answer = 13; sent = 0; «given_up» = 0; held = 0; tables = 0 }) (record { answer = 0; sent = 0; «given_up» = 0; held = h; tables = ones h }))
+    (record { answer = a; sent = n; «given_up» = g; held = 0; tables = 0 })

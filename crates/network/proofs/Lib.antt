@@ -9,3 +9,5 @@ pub mod Typed
 -- what is reached from a new network: demand 3, and nothing left behind
 pub mod Reached
 pub mod Clean
+-- what a loop that holds a record keeps from one event to the next
+pub mod Ready

@@ -32,7 +32,7 @@ use Rattle.network.proofs.Refusal14.{valid-put}
 
 -- a network within the limits is within the sizes of the record
 
-small : {C : Type 0} {n : ℕ} {f : floor.Network} → Valid C n f → SmallNetwork f
+pub small : {C : Type 0} {n : ℕ} {f : floor.Network} → Valid C n f → SmallNetwork f
 small {f = f} v = record { points = all-map (λ p h. record { associations = h .table; moves = h .few }) (points-all f v); air = v .full }
 
 -- one event
@@ -136,6 +136,10 @@ module _ (n t r : ℕ) (setup : validSetup n t r ≡ true) where
 
   valid-first : Valid (Unit {0}) n (begin n t r .network)
   valid-first = valid-begin n t r sizes
+
+  -- 14 does not apply to a new network
+  pub new-valid : validNetworkRecord (newNetwork n t r) ≡ true
+  new-valid = ap validNetworkRecord (sym (put-begin n t r)) ∙ never-14 n t r (sizes .count) (begin n t r .network) valid-first
 
   pub reached : (es : List Event) → All Formed es → runOf (newNetwork n t r) es ≡ put (newNetwork n t r) (run (begin n t r) es .network)
   reached es zs =

@@ -1,0 +1,2 @@
+-- a script's lines played on a record, and a whole script
+pub mod Played

@@ -1,0 +1,2 @@
+-- a line that tells HELD and TABLES alone
+pub mod Held
