@@ -8,15 +8,20 @@ use mathlib.Core.Option.{Option, none, some}
 use native.Mathlib.Omega.{arith}
 use borrow.Author.Tests.{ltb-true, ltb-false, lt-ltb, le-ltb, lt-leb, le-leb}
 use lib.Dec.{eqb, ltb, leb}
-use lib.ListN.{length, drop}
+use lib.ListN.{length, drop, length-append}
 use lib.Seq.{drop-drop}
 use Rattle.lists.specs.Options.{caseOption}
 use Rattle.lists.proofs.Choices.{not-both, by-bool}
 use Rattle.network.specs.declared.Network.{Network}
+use Rattle.network.specs.Lens.{newNetwork}
+use Rattle.network.specs.Events.{validNetworkRecord}
+use Rattle.network.proofs.Reached.{new-valid}
+use Rattle.floor_link.specs.Answered.{Started, setUpDone}
 use Rattle.script.specs.Text.{octetsOf, onFirst, split, lines}
 use Rattle.script.specs.SetUpLines.{Values, setUpIn, eventLines}
 use Rattle.script.specs.Result.{resultNames}
 use Rattle.script.specs.Script.{printed, played}
+use Rattle.script.proofs.Runs.{values-valid}
 use Rattle.script_reader.specs.Heard.{pastLine, threeLines, Opening, openingIn}
 use Rattle.script_runner.specs.Played.{front, Played, playedInto, writtenInto}
 
@@ -61,7 +66,7 @@ past-lines (x ∷ xs) = go (eqb x 10) (split 10 [] xs) refl (past-lines xs)
 three-left : (s : List ℕ) → Left s (pastLine (pastLine (pastLine s)))
 three-left s = left-twice s (pastLine s) (pastLine (pastLine (pastLine s))) (past-left s) (left-twice (pastLine s) (pastLine (pastLine s)) (pastLine (pastLine (pastLine s))) (past-left (pastLine s)) (past-left (pastLine (pastLine s))))
 
-pub three-within : (s : List ℕ) → threeLines s ≤ length s
+three-within : (s : List ℕ) → threeLines s ≤ length s
 unfolding threeLines
 three-within s = omega arith
 
@@ -97,6 +102,18 @@ module _ (s : List ℕ) (r : Opening) (is : r ≡ openingIn s) where
       go none e = not-both g (ap (λ (x : Opening). x .given) e)
       go (some v) e = (ap (λ (x : Opening). some (valuesOf x)) (sym e), ap (λ (x : Opening). x .next) e)
 
+  -- set up so, it is a new network, to which 14 does not apply
+  module _ (g : r .given ≡ true) (x : Started) (u : x ≡ setUpDone (r .aps) (r .timeout) (r .resends)) where
+    pub new-network : x .network ≡ newNetwork (r .aps) (r .timeout) (r .resends)
+    unfolding setUpDone
+    new-network = ap (λ (y : Started). y .network) u ∙ rw (values-valid s (valuesOf r) (opened g .0))
+
+    pub network-valid : validNetworkRecord (x .network) ≡ true
+    network-valid = ap validNetworkRecord new-network ∙ new-valid (r .aps) (r .timeout) (r .resends) (values-valid s (valuesOf r) (opened g .0))
+
+    pub next-there : r .next ≤ length s
+    next-there = omega (arith, opened g .1, three-within s)
+
 -- the buffer
 
 pub refused-is : (a n : ℕ) (t b o : List ℕ) → a ≡ 10 → n ≡ 0 → o ≡ b → length b < length t → record { answer = a; len = n; buffer = o } ≡ writtenInto t b
@@ -116,6 +133,14 @@ pub played-fits : (w : Network) (ls : List (List ℕ)) (writing : Bool) (b : Lis
     → playedInto w ls writing b ≡ record { fits = true; network = played w ls; len = length (printed w ls); buffer = cond writing (front (printed w ls) b) b }
 unfolding playedInto
 played-fits w ls writing b l = rw (le-ltb (length b) (length (printed w ls)) l)
+
+-- what was printed is within the buffer
+pub written-within : (w : Network) (ls : List (List ℕ)) (b : List ℕ) (r : Played) → r ≡ playedInto w ls true b → length (printed w ls) ≤ length b → r .len ≤ length (r .buffer)
+written-within w ls b r e l =
+    let q = e ∙ played-fits w ls true b l in
+    let n : r .len ≡ length (printed w ls) = ap (λ (x : Played). x .len) q in
+    let o : length (r .buffer) ≡ length (front (printed w ls) b) = ap (λ (x : Played). length (x .buffer)) q in
+    omega (arith, n, o, length-append (printed w ls) (drop (length (printed w ls)) b))
 
 -- whether it fits, and the buffer where nothing is written
 pub measured : (w : Network) (ls : List (List ℕ)) (b : List ℕ) → (playedInto w ls false b .fits ≡ leb (length (printed w ls)) (length b)) × (playedInto w ls false b .buffer ≡ b)

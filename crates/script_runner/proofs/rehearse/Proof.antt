@@ -2,29 +2,24 @@
 -- Assumes nothing.
 use Prim.Native.Nat.{ℕ, _≤_}
 use mathlib.Core.Path.{_≡_, sym, ap, _∙_}
-use mathlib.Core.Bool.{true}
 use mathlib.Core.List.{List, _++_}
 use mathlib.Core.Option.{some}
-use native.Mathlib.Omega.{arith}
 use borrow.Author.Needs.{needs}
 use borrow.Author.Tests.{not-true, not-false}
 use denote.Ref.{now}
 use lib.ListN.{length, drop}
 use Rattle.lists.proofs.Fronts.{rest-from}
-use Rattle.machine.specs.Valid.{validSetup}
 use Rattle.network.specs.declared.Network.{Network}
 use Rattle.network.specs.Lens.{newNetwork}
-use Rattle.network.specs.Events.{validNetworkRecord}
-use Rattle.network.proofs.Reached.{new-valid}
-use Rattle.floor_link.specs.Answered.{Started, setUpDone}
+use Rattle.floor_link.specs.Answered.{setUpOf}
 use Rattle.script.specs.Text.{lines}
 use Rattle.script.specs.SetUpLines.{setUpIn}
 use Rattle.script.specs.Result.{resultNames}
 use Rattle.script.specs.Script.{printed, outputOf}
-use Rattle.script.proofs.Runs.{values-valid, output-is, output-bad, script-claim}
+use Rattle.script.proofs.Runs.{output-is, output-bad, script-claim}
 use Rattle.script_reader.specs.Heard.{threeLines, openingFrom}
 use Rattle.script_runner.specs.Played.{writtenInto}
-use Rattle.script_runner.proofs.Whole.{valuesOf, opened-bad, opened, three-within, lines-after}
+use Rattle.script_runner.proofs.Whole.{valuesOf, opened-bad, opened, new-network, network-valid, next-there, lines-after}
 use Rattle.script_runner.proofs.rehearse.Statement.{statement}
 use Rattle.script_runner.proofs.rehearse.Tie as tie
 
@@ -57,15 +52,11 @@ script u = now (read-of u .before .before .before .args .script)
 read : (u : tie.After-set-up) → (setUpIn (lines (script u)) ≡ some (valuesOf (openingFrom (read-of u .read-opening .result)))) × (read-of u .read-opening .result .next ≡ threeLines (script u))
 read u = opened (script u) (openingFrom (read-of u .read-opening .result)) (read-of u .read-opening .ensures) (not-false _ (u .before .if1 .left))
 
-limits : (u : tie.After-set-up) → validSetup (read-of u .read-opening .result .aps) (read-of u .read-opening .result .timeout) (read-of u .read-opening .result .resends) ≡ true
-limits u = values-valid (script u) (valuesOf (openingFrom (read-of u .read-opening .result))) (read u .0)
-
 new : (u : tie.After-set-up) → u .set-up .result .network ≡ newNetwork (read-of u .read-opening .result .aps) (read-of u .read-opening .result .timeout) (read-of u .read-opening .result .resends)
-unfolding setUpDone
-new u = ap (λ (x : Started). x .network) (u .set-up .ensures) ∙ rw (limits u)
+new u = new-network (script u) (openingFrom (read-of u .read-opening .result)) (read-of u .read-opening .ensures) (not-false _ (u .before .if1 .left)) (setUpOf (u .set-up .result)) (u .set-up .ensures)
 
 within : (u : tie.After-set-up) → read-of u .read-opening .result .next ≤ length (script u)
-within u = omega (arith, read u .1, three-within (script u))
+within u = next-there (script u) (openingFrom (read-of u .read-opening .result)) (read-of u .read-opening .ensures) (not-false _ (u .before .if1 .left)) (setUpOf (u .set-up .result)) (u .set-up .ensures)
 
 sub-print-all : tie.Need-sub-print-all
 sub-print-all c = within (c .before)
@@ -79,7 +70,7 @@ part-print-all-end c = search needs
 print-all-requires : tie.Need-print-all-requires
 print-all-requires c κs =
     let u = c .before .before .before in
-    ap validNetworkRecord (new u) ∙ new-valid _ _ _ (limits u)
+    network-valid (script u) (openingFrom (read-of u .read-opening .result)) (read-of u .read-opening .ensures) (not-false _ (u .before .if1 .left)) (setUpOf (u .set-up .result)) (u .set-up .ensures)
 
 same-length-2 : tie.Need-same-length-2
 same-length-2 c = search needs

@@ -1,0 +1,66 @@
+-- `rehearsal::keep` meets its contract.
+-- Assumes nothing.
+use Prim.Native.Nat.{_+_, _-_, _≤_}
+use mathlib.Core.Path.{_≡_}
+use native.Mathlib.Omega.{arith}
+use borrow.Author.Needs.{needs}
+use lib.ListN.{length}
+use Rattle.rehearsal.proofs.keep.Statement.{statement}
+use Rattle.rehearsal.proofs.keep.Tie as tie
+
+abbrev Inv-loop : tie.InvT-loop
+Inv-loop input₀ at len n i₀ input i = (i ≤ n) × (at + n ≤ length input₀) × (length input ≡ length input₀)
+
+abbrev μ-loop : tie.MeasureT-loop
+μ-loop input₀ at len n i₀ input i = n - i
+
+sub-at-most-256 : tie.Need-sub-at-most-256 Inv-loop μ-loop
+sub-at-most-256 c = search needs
+
+at-most-256-requires : tie.Need-at-most-256-requires Inv-loop μ-loop
+at-most-256-requires c κs = search needs
+
+loop-holds : tie.Need-loop-holds Inv-loop μ-loop
+loop-holds c = search needs
+
+add-input : tie.Need-add-input Inv-loop μ-loop
+add-input c = search needs
+
+slice-read-input : tie.Need-slice-read-input Inv-loop μ-loop
+slice-read-input c = search needs
+
+slice-write-input : tie.Need-slice-write-input Inv-loop μ-loop
+slice-write-input c = search needs
+
+add-i : tie.Need-add-i Inv-loop μ-loop
+add-i c = search needs
+
+loop-less : tie.Need-loop-less Inv-loop μ-loop
+loop-less c = search needs
+
+loop-again : tie.Need-loop-again Inv-loop μ-loop
+loop-again c = search needs
+
+same-length : tie.Need-same-length Inv-loop μ-loop
+same-length c = search needs
+
+returns : tie.Need-returns Inv-loop μ-loop
+returns c = search needs
+
+pub keep-spec : {M : Type 1} → statement M
+keep-spec =
+    tie.close
+    (tie.spec
+    Inv-loop
+    μ-loop
+    sub-at-most-256
+    at-most-256-requires
+    loop-holds
+    add-input
+    slice-read-input
+    slice-write-input
+    add-i
+    loop-less
+    loop-again
+    same-length
+    returns)
