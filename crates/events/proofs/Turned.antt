@@ -1,25 +1,22 @@
 -- What a loop that holds a network stores and answers is the event on the record, whichever of the seven it is.
 -- Assumes nothing.
-use Prim.Native.Nat.{ℕ, _≤_}
+use Prim.Native.Nat.{ℕ}
 use mathlib.Core.Path.{_≡_, refl, sym, ap, _∙_}
-use mathlib.Core.Bool.{Bool, true, false, cond}
+use mathlib.Core.Bool.{Bool, true, cond}
 use mathlib.Core.List.{List, map}
 use mathlib.Core.Option.{Option}
 use lib.Count.{ones}
 use lib.ListN.{getD, take}
-use Rattle.lists.specs.Table.{accepts}
-use Rattle.lists.proofs.Choices.{by-bool, not-both}
-use Rattle.lists.proofs.Bools.{by-cond}
+use Rattle.lists.proofs.Choices.{by-bool}
 use Rattle.elements.specs.declared.InFlight.{InFlight}
 use Rattle.machine.specs.Stations.{Station, isGroup}
-use Rattle.machine.specs.Network as floor
-use Rattle.machine.specs.Events.{who, heldBy, Outcome, refusal, accepted, quiet, step}
+use Rattle.machine.specs.Events.{who, heldBy, step}
 use Rattle.record.specs.declared.AccessPoint.{AccessPoint}
 use Rattle.record.specs.Lens.{getPoint}
 use Rattle.network.specs.declared.Network.{Network}
-use Rattle.network.specs.Lens.{get, put}
-use Rattle.network.specs.Events.{validNetworkRecord, Line, Reply, replyOf, refused, eventOf}
-use Rattle.network.proofs.LensLaws.{NetworkFits, put-get}
+use Rattle.network.specs.Lens.{get}
+use Rattle.network.specs.Events.{validNetworkRecord, Reply, replyOf, refused, eventOf}
+use Rattle.network.proofs.LensLaws.{NetworkFits}
 use Rattle.network.proofs.Lent.{event-valid}
 use Rattle.actions.specs.Done.{Done}
 use Rattle.events.specs.declared.Kind.{Kind}

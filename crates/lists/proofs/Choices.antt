@@ -4,6 +4,7 @@ use Prim.Native.Nat.{ℕ}
 use mathlib.Core.Path.{_≡_, refl, sym, _∙_}
 use mathlib.Core.Bool.{Bool, true, false, _&&_, _||_, false≢true}
 use mathlib.Core.Option.{Option, none, some}
+use mathlib.Core.Logic.{_⊎_, inl, inr}
 use native.Mathlib.Omega.{arith}
 use Rattle.lists.specs.Options.{caseOption}
 
@@ -57,3 +58,8 @@ not-some {A} {a} {o} p q = let z : _≡_ {A = ℕ} 0 1 = cc in absurd (omega ari
 
 pub some-inj : {A : Type 0} {a b : A} {o : Option A} → o ≡ some a → o ≡ some b → a ≡ b
 some-inj p q = cc
+
+-- one of two, and what follows from each
+pub either : {A B : Type 0} {C : Type 0} → A ⊎ B → (A → C) → (B → C) → C
+either (inl a) f g = f a
+either (inr b) f g = g b

@@ -1,9 +1,9 @@
 -- What a loop that holds a record in locals of its own keeps from one event to the next: its arrays have their sizes, its elements
 -- are typed, and 14 does not apply.
 -- Assumes nothing.
-use Prim.Native.Nat.{ℕ, suc, _≤_}
+use Prim.Native.Nat.{suc, _≤_}
 use mathlib.Core.Bool.{true}
-use mathlib.Core.Path.{_≡_, refl, sym, ap, subst, _∙_}
+use mathlib.Core.Path.{_≡_, refl, sym, ap, _∙_}
 use mathlib.Core.List.{List, [], _∷_, map}
 use native.Mathlib.Omega.{arith}
 use lib.ListN.{length, take, length-map}
@@ -11,7 +11,6 @@ use mir.Val.{Val}
 use denote.Laws.{Is}
 use denote.Struct.Declared.{row}
 use Rattle.lists.specs.Places.{All, nil, cons}
-use Rattle.lists.proofs.Every.{all-map}
 use Rattle.machine.specs.AccessPoint as machine
 use Rattle.machine.specs.Network as floor
 use Rattle.machine.specs.Events.{Event, Formed, step}

@@ -1,7 +1,7 @@
 -- The events that are read are formed: a station is six octets, and a context is octets.
 -- Assumes nothing.
 use Prim.Native.Nat.{ℕ, _+_, _*_, _-_, _%_, _<_}
-use mathlib.Core.Path.{_≡_, refl, ap, subst}
+use mathlib.Core.Path.{_≡_, refl, subst}
 use mathlib.Core.Bool.{Bool, true, false, cond, _&&_, _||_}
 use mathlib.Core.List.{List, [], _∷_}
 use mathlib.Core.Option.{Option, none, some}
@@ -9,7 +9,6 @@ use native.Mathlib.Omega.{arith}
 use borrow.Author.Tests.{leb-true, eqb-true}
 use lib.Dec.{eqb, ltb, leb}
 use lib.ListN.{length, getD, replicate}
-use Rattle.lists.specs.Options.{caseOption}
 use Rattle.lists.specs.Places.{every, All, nil, cons}
 use Rattle.lists.proofs.Choices.{and-left, and-right, by-option}
 use Rattle.lists.proofs.Bools.{by-cond}

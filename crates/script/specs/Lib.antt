@@ -10,5 +10,7 @@ pub mod SetUpLines
 pub mod Result
 -- a whole script
 pub mod Script
+-- texts put into a lent buffer
+pub mod Put
 -- a value that may not be there, handed on
 pub mod Told

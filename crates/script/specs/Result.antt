@@ -2,7 +2,7 @@
 use Prim.Native.Nat.{ℕ}
 use mathlib.Core.Bool.{Bool, true, false, _&&_}
 use mathlib.Core.Path.{_≡_, refl}
-use mathlib.Core.List.{List, [], _∷_, _++_}
+use mathlib.Core.List.{List, _∷_, _++_}
 use Rattle.lists.specs.Table.{accepts}
 use Rattle.machine.specs.Events.{Event, join, leave, deliver, repeat, lose, tick, who}
 use Rattle.network.specs.Events.{Line}

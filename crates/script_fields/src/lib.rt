@@ -3,14 +3,14 @@ use events::Kind;
 use joining::Old;
 ghost use mathlib.Core.Path.{_≡_};
 ghost use mathlib.Core.Bool.{true};
-ghost use mathlib.Core.List.{_++_};
 ghost use mathlib.Core.Option.{none, some};
 ghost use Prim.Native.Nat.{_+_, _*_, _≤_, _<_};
-ghost use lib.ListN.{length, getD, drop, replicate};
+ghost use lib.ListN.{length, getD, replicate};
 ghost use Rattle.lists.specs.Places.{every};
 ghost use Rattle.lists.specs.Options.{isSome};
 ghost use Rattle.machine.specs.Stations.{same};
 ghost use Rattle.joining.specs.Join.{oldOf};
+ghost use Rattle.script.specs.Put.{front};
 ghost use Rattle.script.specs.Told.{told, toldLength, toldFront};
 ghost use Rattle.script.specs.Fields.{isDash, isDigit, numberIn, isHex, hexOf, octetsIn, stationIn, contextIn};
 ghost use Rattle.script.specs.EventLine.{kindIn, hasAt, hasStation, isJoin, numberField, stationField, oldField, contextField};
@@ -197,7 +197,7 @@ fn is_context(f: &[u8]) -> bool
 fn put_octets(f: &[u8], context: &mut [u8]) -> usize
     requires { ⌜ (length (octetsIn (now f)) ≤ length (now context)) × (every isHex (now f) ≡ true) ⌝ }
     ensures { λ r. ⌜ r ≡ length (octetsIn (now (f .entry))) ⌝ }
-    ensures { λ r. ⌜ now (context .exit) ≡ octetsIn (now (f .entry)) ++ drop (length (octetsIn (now (f .entry)))) (now (context .entry)) ⌝ }
+    ensures { λ r. ⌜ now (context .exit) ≡ front (octetsIn (now (f .entry))) (now (context .entry)) ⌝ }
 {
     let n = f.len() / 2;
     let mut i: usize = 0;

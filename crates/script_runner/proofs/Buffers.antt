@@ -5,10 +5,10 @@ use mathlib.Core.Path.{_≡_, refl, sym, ap, _∙_}
 use mathlib.Core.List.{List, _++_, append-assoc}
 use native.Mathlib.Omega.{arith}
 use lib.ListN.{length, take, drop, length-append, length-drop, take-append-drop}
-use lib.Seq.{take-at, drop-at, drop-drop, take-add, length-take-le, drop-append-add}
+use lib.Seq.{take-at, drop-at, drop-drop, take-add, length-take-le}
 use Rattle.lists.proofs.Copies.{put-back}
 use Rattle.lists.proofs.Fronts.{rest-from}
-use Rattle.script_runner.specs.Played.{over, front}
+use Rattle.script.specs.Put.{over, front}
 
 -- the part of l from a on comes back as it was
 pub back : (a : ℕ) (l m : List ℕ) → m ≡ take (length l - a) (drop a l) → take a l ++ (m ++ drop (length l - a) (drop a l)) ≡ l

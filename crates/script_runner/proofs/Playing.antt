@@ -3,7 +3,7 @@
 use Prim.Native.Nat.{ℕ, _+_, _≤_, _<_}
 use mathlib.Core.Path.{_≡_, refl, sym, ap, subst, _∙_}
 use mathlib.Core.Bool.{Bool, true, false, cond}
-use mathlib.Core.List.{List, [], _∷_, _++_}
+use mathlib.Core.List.{List, [], _++_}
 use native.Mathlib.Omega.{arith}
 use borrow.Author.Tests.{lt-ltb, le-ltb}
 use lib.ListN.{length, take, drop, length-append, length-drop}
@@ -12,12 +12,13 @@ use Rattle.network.specs.declared.Network.{Network}
 use Rattle.network.specs.Events.{Reply, eventOf}
 use Rattle.network.proofs.Ready.{Ready, ready-event}
 use Rattle.network.specs.Events.{runOf}
+use Rattle.script.specs.Put.{over, front}
 use Rattle.script.specs.Text.{lines, placeFrom, nextFrom, part}
 use Rattle.script.specs.Script.{eventsIn, printed, played}
 use Rattle.script.proofs.Cut.{lines-cut, lines-end, next-within}
 use Rattle.script_reader.specs.Heard.{Heard, heardIn, contextTo}
 use Rattle.script_reader.proofs.Event.{eventHeard, heard-formed}
-use Rattle.script_runner.specs.Played.{textOf, over, front, playedInto}
+use Rattle.script_runner.specs.Played.{textOf, playedInto}
 use Rattle.script_runner.proofs.Buffers as buffers
 use Rattle.script_runner.proofs.Turns.{turn-played, turn-printed}
 

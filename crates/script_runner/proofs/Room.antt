@@ -1,14 +1,11 @@
 -- How long what a script's lines print can be: at most 32 octets for each octet of the script.
 -- Assumes nothing.
 use Prim.Native.Nat.{ℕ, _*_, _≤_}
-use mathlib.Core.Path.{_≡_, ap}
 use mathlib.Core.Bool.{Bool, true, false, cond}
-use mathlib.Core.List.{List, [], _∷_, _++_}
-use mathlib.Core.Option.{Option, none, some}
+use mathlib.Core.List.{List, [], _∷_}
 use native.Mathlib.Omega.{arith}
 use lib.Dec.{eqb}
 use lib.ListN.{length, length-append}
-use Rattle.lists.specs.Options.{caseOption}
 use Rattle.lists.proofs.Choices.{by-option}
 use Rattle.machine.specs.Events.{Event}
 use Rattle.network.specs.declared.Network.{Network}

@@ -2,13 +2,13 @@
 -- Assumes nothing.
 use Prim.Native.Nat.{ℕ}
 use mathlib.Core.Path.{_≡_, refl, sym, ap, _∙_}
-use mathlib.Core.Bool.{Bool, true, false, cond}
+use mathlib.Core.Bool.{Bool, false}
 use mathlib.Core.List.{List, _∷_, _++_}
 use mathlib.Core.Option.{Option, none, some}
 use lib.ListN.{replicate}
 use Rattle.lists.proofs.Choices.{by-bool}
 use Rattle.machine.specs.Stations.{Station}
-use Rattle.machine.specs.Events.{Event, who}
+use Rattle.machine.specs.Events.{Event}
 use Rattle.network.specs.declared.Network.{Network}
 use Rattle.network.specs.Events.{Reply, eventOf, runOf}
 use Rattle.network.proofs.Ready.{Ready, ready-fits}

@@ -3,7 +3,7 @@
 use Prim.Native.Nat.{ℕ, suc, _+_, _-_, _≤_, _<_}
 use mathlib.Core.Path.{_≡_, refl, sym, ap, _∙_}
 use mathlib.Core.Bool.{Bool, true, false, cond}
-use mathlib.Core.List.{List, [], _∷_, _++_}
+use mathlib.Core.List.{List, [], _∷_}
 use mathlib.Core.Option.{Option, none, some}
 use native.Mathlib.Omega.{arith}
 use borrow.Author.Tests.{ltb-true, ltb-false, lt-ltb, le-ltb, lt-leb, le-leb}
@@ -17,13 +17,14 @@ use Rattle.network.specs.Lens.{newNetwork}
 use Rattle.network.specs.Events.{validNetworkRecord}
 use Rattle.network.proofs.Reached.{new-valid}
 use Rattle.floor_link.specs.Answered.{Started, setUpDone}
+use Rattle.script.specs.Put.{front}
 use Rattle.script.specs.Text.{octetsOf, onFirst, split, lines}
 use Rattle.script.specs.SetUpLines.{Values, setUpIn, eventLines}
 use Rattle.script.specs.Result.{resultNames}
 use Rattle.script.specs.Script.{printed, played}
 use Rattle.script.proofs.Runs.{values-valid}
 use Rattle.script_reader.specs.Heard.{pastLine, threeLines, Opening, openingIn}
-use Rattle.script_runner.specs.Played.{front, Played, playedInto, writtenInto}
+use Rattle.script_runner.specs.Played.{Played, playedInto, writtenInto}
 
 -- t is what is left of s
 pub record Left (s t : List ℕ) : Type 0 where

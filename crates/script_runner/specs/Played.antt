@@ -1,13 +1,14 @@
 -- What is printed into a lent buffer: the lines of a script, and a whole script.
-use Prim.Native.Nat.{ℕ, _+_}
+use Prim.Native.Nat.{ℕ}
 use mathlib.Core.Bool.{Bool, true, false, cond}
-use mathlib.Core.List.{List, _++_}
+use mathlib.Core.List.{List}
 use lib.Dec.{ltb}
-use lib.ListN.{length, take, drop}
+use lib.ListN.{length}
 use Rattle.answers.specs.Numbers.{numberOf}
 use Rattle.network.specs.declared.Network.{Network}
 use Rattle.network.specs.Events.{Line}
 use Rattle.events.specs.declared.Kind.{Kind}
+use Rattle.script.specs.Put.{front}
 use Rattle.script.specs.Result.{unreadable, resultAs}
 use Rattle.script.specs.Script.{outputOf, printed, played}
 use Rattle.script_runner.specs.declared.Played as lines
@@ -16,14 +17,6 @@ use Rattle.script_runner.specs.declared.Rehearsed as code
 -- the line that a line prints: an event of this kind that was answered so, or an unreadable one
 abbrev pub textOf : Bool → Kind → Line → List ℕ
 textOf readable k l = cond readable (resultAs k l) unreadable
-
--- the buffer with a text in it from `at` on, and otherwise as it came
-abbrev pub over : ℕ → List ℕ → List ℕ → List ℕ
-over at xs b = take at b ++ (xs ++ drop (at + length xs) b)
-
--- the buffer with a text at its front
-abbrev pub front : List ℕ → List ℕ → List ℕ
-front xs b = xs ++ drop (length xs) b
 
 -- The lines of events
 

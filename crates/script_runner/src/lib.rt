@@ -14,9 +14,10 @@ ghost use Rattle.network.specs.Events.{validNetworkRecord};
 ghost use Rattle.events.specs.Apart.{answeredBy};
 ghost use Rattle.floor_link.specs.Answered.{lineFrom};
 ghost use Rattle.script.specs.Text.{lines};
+ghost use Rattle.script.specs.Put.{over, front};
 ghost use Rattle.script.specs.Result.{resultNames, badSetUp};
 ghost use Rattle.script.specs.Script.{printed, ScriptClaim};
-ghost use Rattle.script_runner.specs.Played.{textOf, over, front, playedFrom, playedInto, rehearsedFrom, writtenInto, rehearsedInto};
+ghost use Rattle.script_runner.specs.Played.{textOf, playedFrom, playedInto, rehearsedFrom, writtenInto, rehearsedInto};
 
 // Whether what the lines print fits the buffer; the record after them, and the length of what they print. Where it does not fit, the
 // record as it came, and 0.

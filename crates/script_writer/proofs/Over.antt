@@ -7,10 +7,7 @@ use native.Mathlib.Nat.{zero-add}
 use native.Mathlib.Omega.{arith}
 use lib.ListN.{length, take, drop, set, length-append}
 use lib.Seq.{take-at, drop-at, drop-drop, length-take-le, sets-eq}
-
--- b with the text x at `at`
-abbrev pub over : ℕ → List ℕ → List ℕ → List ℕ
-over at x b = take at b ++ (x ++ drop (at + length x) b)
+use Rattle.script.specs.Put.{over, front}
 
 -- a text, and another at the place after it, are the two as one text
 pub over-twice : (at : ℕ) (x y b : List ℕ) → at ≤ length b → over (at + length x) y (over at x b) ≡ over at (x ++ y) b
@@ -35,7 +32,7 @@ and-then at q r x y b l m h f g =
 
 -- l is b with the text x at its front, and r is the place after it
 abbrev pub Front : List ℕ → List ℕ → List ℕ → ℕ → Type 0
-Front x b l r = (r ≡ length x) × (l ≡ x ++ drop (length x) b)
+Front x b l r = (r ≡ length x) × (l ≡ front x b)
 
 pub front-then : (q r : ℕ) (x y b l m : List ℕ) → Front x b l q → Put q y l m r → Front (x ++ y) b m r
 front-then q r x y b l m f g =

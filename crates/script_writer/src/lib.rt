@@ -2,9 +2,9 @@
 use events::Kind;
 use floor_link::Line;
 ghost use mathlib.Core.Path.{_≡_};
-ghost use mathlib.Core.List.{_++_};
 ghost use Prim.Native.Nat.{_+_, _≤_};
-ghost use lib.ListN.{length, take, drop};
+ghost use lib.ListN.{length};
+ghost use Rattle.script.specs.Put.{over, front};
 ghost use Rattle.script.specs.Fields.{digit};
 ghost use Rattle.script.specs.EventLine.{nameOf};
 ghost use Rattle.script.specs.Result.{unreadable, field, heldFields, resultAs};
@@ -15,7 +15,7 @@ ghost use Rattle.script_writer.specs.Held.{heldLine};
 fn put(line: &mut [u8], at: usize, text: &[u8]) -> usize
     requires { ⌜ at + length (now text) ≤ length (now line) ⌝ }
     ensures { λ r. ⌜ r ≡ at + length (now (text .entry)) ⌝ }
-    ensures { λ _. ⌜ now (line .exit) ≡ take at (now (line .entry)) ++ (now (text .entry) ++ drop (at + length (now (text .entry))) (now (line .entry))) ⌝ }
+    ensures { λ _. ⌜ now (line .exit) ≡ over at (now (text .entry)) (now (line .entry)) ⌝ }
 {
     let mut i: usize = 0;
     while i < text.len() {
@@ -35,7 +35,7 @@ fn digit_of(n: u8) -> u8
 fn put_number(line: &mut [u8], at: usize, n: u8) -> usize
     requires { ⌜ at + 4 ≤ length (now line) ⌝ }
     ensures { λ r. ⌜ r ≡ at + length (field n) ⌝ }
-    ensures { λ _. ⌜ now (line .exit) ≡ take at (now (line .entry)) ++ (field n ++ drop (at + length (field n)) (now (line .entry))) ⌝ }
+    ensures { λ _. ⌜ now (line .exit) ≡ over at (field n) (now (line .entry)) ⌝ }
 {
     line[at] = b' ';
     if n < 10 {
@@ -57,7 +57,7 @@ fn put_number(line: &mut [u8], at: usize, n: u8) -> usize
 fn put_name(line: &mut [u8], kind: Kind) -> usize
     requires { ⌜ 7 ≤ length (now line) ⌝ }
     ensures { λ r. ⌜ r ≡ length (nameOf kind) ⌝ }
-    ensures { λ _. ⌜ now (line .exit) ≡ nameOf kind ++ drop (length (nameOf kind)) (now (line .entry)) ⌝ }
+    ensures { λ _. ⌜ now (line .exit) ≡ front (nameOf kind) (now (line .entry)) ⌝ }
 {
     match kind {
         Kind::Join => put(line, 0, b"join"),
@@ -74,7 +74,7 @@ fn put_name(line: &mut [u8], kind: Kind) -> usize
 fn put_held(line: &mut [u8], at: usize, told: bool, held: u8, tables: u8) -> usize
     requires { ⌜ at + 8 ≤ length (now line) ⌝ }
     ensures { λ r. ⌜ r ≡ at + length (heldFields told (heldLine held tables)) ⌝ }
-    ensures { λ _. ⌜ now (line .exit) ≡ take at (now (line .entry)) ++ (heldFields told (heldLine held tables) ++ drop (at + length (heldFields told (heldLine held tables))) (now (line .entry))) ⌝ }
+    ensures { λ _. ⌜ now (line .exit) ≡ over at (heldFields told (heldLine held tables)) (now (line .entry)) ⌝ }
 {
     if !told {
         return put(line, at, b" - -");
@@ -86,7 +86,7 @@ fn put_held(line: &mut [u8], at: usize, told: bool, held: u8, tables: u8) -> usi
 // EVENT ANSWER SENT GIVENUP HELD TABLES, of an event of this kind.
 pub fn result(line: &mut [u8; 32], kind: Kind, l: Line) -> usize
     ensures { λ r. ⌜ r ≡ length (resultAs kind (lineFrom l)) ⌝ }
-    ensures { λ _. ⌜ now (line .exit) ≡ resultAs kind (lineFrom l) ++ drop (length (resultAs kind (lineFrom l))) (now (line .entry)) ⌝ }
+    ensures { λ _. ⌜ now (line .exit) ≡ front (resultAs kind (lineFrom l)) (now (line .entry)) ⌝ }
 {
     let answer = l.answer;
     let n = answers::number(answer);
@@ -101,7 +101,7 @@ pub fn result(line: &mut [u8; 32], kind: Kind, l: Line) -> usize
 // The line of an unreadable one.
 pub fn unreadable_line(line: &mut [u8; 32]) -> usize
     ensures { λ r. ⌜ r ≡ length unreadable ⌝ }
-    ensures { λ _. ⌜ now (line .exit) ≡ unreadable ++ drop (length unreadable) (now (line .entry)) ⌝ }
+    ensures { λ _. ⌜ now (line .exit) ≡ front unreadable (now (line .entry)) ⌝ }
 {
     put(line, 0, b"? 18 0 0 - -\n")
 }

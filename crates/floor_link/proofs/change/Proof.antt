@@ -3,13 +3,13 @@
 use Prim.Native.Nat.{_≤_, _<_}
 use mathlib.Core.Path.{_≡_, sym, ap, _∙_}
 use mathlib.Core.Bool.{false}
-use mathlib.Core.Logic.{_⊎_, inl, inr}
 use native.Mathlib.Omega.{arith}
 use borrow.Author.Needs.{needs}
 use borrow.Author.Tests.{ltb-false}
 use denote.Ref.{now}
 use lib.Dec.{ltb}
 use lib.ListN.{getD}
+use Rattle.lists.proofs.Choices.{either}
 use Rattle.machine.specs.Events.{step}
 use Rattle.joining.specs.Join.{oldOf}
 use Rattle.network.specs.declared.InFlights.{InFlights}
@@ -135,10 +135,6 @@ stored t f q =
     ∙ performed-by w (fitting s) (s .pre .0) (e .at) (e .station) (e .sequence) (oldOf (e .old)) (now (s .args .context)) packets.past past (e .kind)
     (x .before .before .point-of .result) (x .before .before .before .before .packet-of .result) (t .takes .result) (doneOf (x .action .result))
     (s .pre .1) (x .before .before .before .before .packet-of .ensures) (x .before .before .point-of .ensures) (t .takes .ensures) (x .action .ensures)
-
-either : {A B : Type 0} {C : Type 0} → A ⊎ B → (A → C) → (B → C) → C
-either (inl a) f g = f a
-either (inr b) f g = g b
 
 -- the record with these packets in flight
 abbrev holding : tie.After-takes → InFlights → Network

@@ -1,10 +1,10 @@
 -- `rehearsal::has_three_lines` meets its contract.
 -- Assumes nothing.
 use Prim.Native.Nat.{_-_, _≤_}
-use mathlib.Core.Logic.{_⊎_, inl, inr}
 use native.Mathlib.Omega.{arith}
 use borrow.Author.Needs.{needs}
 use lib.ListN.{length}
+use Rattle.lists.proofs.Choices.{either}
 use Rattle.rehearsal.proofs.has_three_lines.Statement.{statement}
 use Rattle.rehearsal.proofs.has_three_lines.Tie as tie
 
@@ -31,10 +31,6 @@ add-i c = search needs
 
 loop-less : tie.Need-loop-less Inv-loop μ-loop
 loop-less c = search needs
-
-either : {A B : Type 0} {C : Type 0} → A ⊎ B → (A → C) → (B → C) → C
-either (inl a) f g = f a
-either (inr b) f g = g b
 
 loop-again : tie.Need-loop-again Inv-loop μ-loop
 loop-again c =

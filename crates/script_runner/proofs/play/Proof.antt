@@ -5,15 +5,14 @@ use Prim.Native.Nat.{ℕ, _+_, _-_, _≤_, _<_}
 use mathlib.Core.Path.{_≡_, refl, sym, ap, _∙_}
 use mathlib.Core.Bool.{Bool, true, false, cond}
 use mathlib.Core.List.{List, map}
-use mathlib.Core.Logic.{_⊎_, inl, inr}
 use native.Mathlib.Omega.{arith}
 use borrow.Author.Needs.{needs}
 use borrow.Author.Tests.{ltb-false}
 use denote.Ref.{now}
 use lib.Dec.{ltb}
-use lib.ListN.{length, take, getD, set}
+use lib.ListN.{length, take, getD}
 use lib.Seq.{length-take-le}
-use Rattle.lists.proofs.Choices.{not-both, by-bool}
+use Rattle.lists.proofs.Choices.{not-both, by-bool, either}
 use Rattle.machine.specs.Events.{heldBy}
 use Rattle.record.specs.declared.AccessPoint.{AccessPoint}
 use Rattle.record.specs.Lens.{getPoint}
@@ -28,19 +27,20 @@ use Rattle.in_flight.proofs.Slots as packets
 use Rattle.actions.specs.Done.{Done, doneOf}
 use Rattle.events.specs.declared.Kind.{Kind}
 use Rattle.events.specs.Event.{isWho}
-use Rattle.events.specs.Apart.{packetFor, pointFor, storedBy, answeredBy}
+use Rattle.events.specs.Apart.{packetFor, pointFor, storedBy}
 use Rattle.events.proofs.Within.{past, setup-within, all-usable, usable-at, moves-at, few-packets}
 use Rattle.events.proofs.Looked.{packet-slot, taken-there, packet-reads, point-there}
 use Rattle.events.proofs.Few.{few-sent}
 use Rattle.events.proofs.Stored.{settled-same}
 use Rattle.events.proofs.Turned.{turned}
 use Rattle.floor_link.specs.Answered.{lineFrom}
+use Rattle.script.specs.Put.{over}
 use Rattle.script.specs.Text.{lines, nextFrom}
 use Rattle.script.specs.Script.{printed}
 use Rattle.script.proofs.Cut.{place-within, next-within}
 use Rattle.script_reader.specs.Heard.{Heard, heardFrom, heardIn, contextTo}
 use Rattle.script_reader.proofs.Event.{eventHeard, heard-fits}
-use Rattle.script_runner.specs.Played.{textOf, over}
+use Rattle.script_runner.specs.Played.{textOf}
 use Rattle.script_runner.proofs.Buffers.{over-length}
 use Rattle.script_runner.proofs.Playing.{Playing, playing-start, out-length, not-written, too-long, next-fits, next-line, all-done}
 use Rattle.script_runner.proofs.play.Statement.{statement}
@@ -243,10 +243,6 @@ answer-of-requires : tie.Need-answer-of-requires Inv-loop μ-loop
 answer-of-requires c κs = search needs
 
 -- HELD of a who is the mask of those that hold the station
-either : {A B : Type 0} {C : Type 0} → A ⊎ B → (A → C) → (B → C) → C
-either (inl a) f g = f a
-either (inr b) f g = g b
-
 masked : (j : tie.Joined1 Inv-loop μ-loop) → isWho (j .before .before .before .before .read-event .result .event .kind) ≡ true
     → j .if1 .held ≡ heldBy (j .before .before .before .before .read-event .result .event .station) (map getPoint (take (holds (of-read (j .before .before .before .before)) .«ap_count») (holds (of-read (j .before .before .before .before)) .points)))
 masked j q =

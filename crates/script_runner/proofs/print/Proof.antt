@@ -7,7 +7,8 @@ use borrow.Author.Needs.{needs}
 use denote.Ref.{now}
 use lib.ListN.{length, take}
 use Rattle.floor_link.specs.Answered.{lineFrom}
-use Rattle.script_runner.specs.Played.{textOf, over}
+use Rattle.script.specs.Put.{over}
+use Rattle.script_runner.specs.Played.{textOf}
 use Rattle.script_runner.proofs.Buffers.{front-fits, front-taken}
 use Rattle.script_runner.proofs.print.Statement.{statement}
 use Rattle.script_runner.proofs.print.Tie as tie

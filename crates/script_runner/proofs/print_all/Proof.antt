@@ -10,10 +10,11 @@ use borrow.Author.Tests.{not-true, not-false, leb-true, leb-false}
 use denote.Ref.{now}
 use lib.ListN.{length, take, drop, length-append, length-drop}
 use Rattle.lists.proofs.Fronts.{rest-from}
+use Rattle.script.specs.Put.{over, front}
 use Rattle.script.specs.Text.{octetsOf, lines}
 use Rattle.script.specs.Result.{resultNames}
 use Rattle.script.specs.Script.{printed, played}
-use Rattle.script_runner.specs.Played.{over, front, Played, playedFrom}
+use Rattle.script_runner.specs.Played.{Played, playedFrom}
 use Rattle.script_runner.proofs.Buffers.{back, room-left, both-written}
 use Rattle.script_runner.proofs.Whole.{refused-is, written-is, names-length, played-fits}
 use Rattle.script_runner.proofs.print_all.Statement.{statement}
