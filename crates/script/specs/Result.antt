@@ -4,6 +4,8 @@ use mathlib.Core.Bool.{Bool, true, false, _&&_}
 use mathlib.Core.Path.{_≡_, refl}
 use mathlib.Core.List.{List, _∷_, _++_}
 use Rattle.lists.specs.Table.{accepts}
+use Rattle.answers.specs.declared.Answer.the-variants.{InvalidRecord, UnreadableLine}
+use Rattle.answers.specs.Numbers.{numberOf}
 use Rattle.machine.specs.Events.{Event, join, leave, deliver, repeat, lose, tick, who}
 use Rattle.network.specs.Events.{Line}
 use Rattle.events.specs.declared.Kind.{Kind}
@@ -65,3 +67,13 @@ refused-who = refl
 pub a-join : resultAs Join (record { answer = 0; sent = 1; «given_up» = 0; held = 0; tables = 0 }) ≡ octetsOf "join 0 1 0 - -\n"
 unfolding resultAs field heldFields decimal digit octetsOf
 a-join = refl
+
+-- the two lines that no event prints have the numbers of their answers, and "0 0 - -" as a refused event has
+
+pub bad-set-up-14 : badSetUp ≡ octetsOf "?" ++ (field (numberOf InvalidRecord) ++ octetsOf " 0 0 - -\n")
+unfolding badSetUp field decimal digit octetsOf
+bad-set-up-14 = refl
+
+pub unreadable-18 : unreadable ≡ octetsOf "?" ++ (field (numberOf UnreadableLine) ++ octetsOf " 0 0 - -\n")
+unfolding unreadable field decimal digit octetsOf
+unreadable-18 = refl
