@@ -2,6 +2,7 @@
 // record's arrays.
 
 // Document 01: a row of an AP's table.
+#[repr(C)]
 pub struct Association {
     pub station: [u8; 6],
     pub sequence: u16,
@@ -11,6 +12,7 @@ pub struct Association {
 }
 
 // Document 01: an open move.
+#[repr(C)]
 pub struct Move {
     pub station: [u8; 6],
     pub sequence: u16,
@@ -22,6 +24,7 @@ pub struct Move {
 }
 
 // Document 01: a packet in the air, as octets, with sender and receiver. The longest packet has 82 octets.
+#[repr(C)]
 pub struct InFlight {
     pub from: u8,
     pub to: u8,

@@ -3,12 +3,14 @@ use elements::InFlight;
 use record::AccessPoint;
 
 // Document 01: the air, its packets in order of sending.
+#[repr(C)]
 pub struct InFlights {
     pub items: [InFlight; 64],
     pub count: usize,
 }
 
 // Document 01: the floor, its APs numbered from 0.
+#[repr(C)]
 pub struct Network {
     pub ap_count: u8,
     // Document 01: T, in ticks, and R.
