@@ -1,0 +1,4 @@
+// The floor link for C and Rust: the functions that the static library exports. link/skelmarith.h declares them.
+mod floor;
+mod packets;
+mod whole_script;
