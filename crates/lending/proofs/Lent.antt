@@ -78,37 +78,37 @@ abbrev pub Spotted : Ty × ℕ → List (Ty × ℕ) → ℕ → (τs : List Ty) 
 Spotted z E i [] bs = Unit {0}
 Spotted z E i (τ ∷ τs) bs = (getD E i z ≡ (τ, bs .0)) × Spotted z E (suc i) τs (bs .1)
 
-abbrev Rooms : (τs : List Ty) → Spots τs → Fml
+abbrev pub Rooms : (τs : List Ty) → Spots τs → Fml
 Rooms [] bs = ftrue
 Rooms (τ ∷ τs) bs = fsep (froom τ (bs .0) 0) (fsep (fdies τ (bs .0)) (Rooms τs (bs .1)))
 
-abbrev Cells : (τs : List Ty) → Spots τs → Words τs → Fml
+abbrev pub Cells : (τs : List Ty) → Spots τs → Words τs → Fml
 Cells [] bs us = ftrue
 Cells (τ ∷ τs) bs us = fsep (fat fullShare τ (bs .0) 0 (us .0)) (fsep (fdies τ (bs .0)) (Cells τs (bs .1) (us .1)))
 
 module _ {M : Type 1} {𝓤 : URA M} {H : Heap 𝓤} {A : Atoms 𝓤} (W : Given 𝓤 H A) where
-  alloc-args : (τs : List Ty) {ls : List Local} {Kt : Env 𝓤 H → Goal 𝓤 H} {Γ : List (Item 𝓤)}
+  pub alloc-args : (τs : List Ty) {ls : List Local} {Kt : Env 𝓤 H → Goal 𝓤 H} {Γ : List (Item 𝓤)}
       → ((bs : Spots τs) → Sq W (‵ (Rooms τs bs) ∷ Γ) (allocs ls (λ E. Kt (envs τs bs E)))) → Sq W Γ (allocs (locals τs ls) Kt)
   alloc-args [] k = nothing ! $ k tt
   alloc-args (τ ∷ τs) k = alloc1 ! (λ b. alloc-args τs (λ bs. move ! (2 ∷ 0 ∷ []) $ fjoin ! $ move ! (1 ∷ 0 ∷ []) $ fjoin ! $ k (b, bs)))
 
-  pass-args : (τs : List Ty) (bs : Spots τs) (us : Words τs) → Good τs us → (E : Env 𝓤 H) {g : Goal 𝓤 H} {Γ : List (Item 𝓤)}
+  pub pass-args : (τs : List Ty) (bs : Spots τs) (us : Words τs) → Good τs us → (E : Env 𝓤 H) {g : Goal 𝓤 H} {Γ : List (Item 𝓤)}
       → Sq W (‵ (Cells τs bs us) ∷ Γ) g → Sq W (‵ (Rooms τs bs) ∷ Γ) (passes (envs τs bs E) (listed τs us) g)
   pass-args [] bs us good E s = pass0 ! $ s
   pass-args (τ ∷ τs) bs us good E s =
       fsplit ! $ pass1 ! (init ! 0 refl (good .0)) $ move ! (1 ∷ []) $ fsplit ! $ move ! (1 ∷ []) $
       pass-args τs (bs .1) (us .1) (good .1) E (move ! (1 ∷ 0 ∷ []) $ fjoin ! $ move ! (1 ∷ 0 ∷ []) $ fjoin ! $ s)
 
-  free-args : (τs : List Ty) (bs : Spots τs) (us : Words τs) {E : Env 𝓤 H} {g : Goal 𝓤 H} {Γ : List (Item 𝓤)}
+  pub free-args : (τs : List Ty) (bs : Spots τs) (us : Words τs) {E : Env 𝓤 H} {g : Goal 𝓤 H} {Γ : List (Item 𝓤)}
       → Sq W Γ (frees E g) → Sq W (‵ (Cells τs bs us) ∷ Γ) (frees (envs τs bs E) g)
   free-args [] bs us s = drop ! $ s
   free-args (τ ∷ τs) bs us s = fsplit ! $ forget ! 0 refl $ move ! (1 ∷ []) $ fsplit ! $ move ! (2 ∷ 0 ∷ []) $ free1 ! $ free-args τs (bs .1) (us .1) s
 
-  found : {Γ : List (Item 𝓤)} {E : Env 𝓤 H} {i : ℕ} {st : List PStep} {sp : Spot 𝓤 H} {e : Ty × ℕ} → getD E i (noLocal 𝓤 H) ≡ e → Walks (Go {0}) W Γ E (e .0, e .1, zero) st sp → Finds (Go {0}) W Γ E (place i st) sp
+  pub found : {Γ : List (Item 𝓤)} {E : Env 𝓤 H} {i : ℕ} {st : List PStep} {sp : Spot 𝓤 H} {e : Ty × ℕ} → getD E i (noLocal 𝓤 H) ≡ e → Walks (Go {0}) W Γ E (e .0, e .1, zero) st sp → Finds (Go {0}) W Γ E (place i st) sp
   found {Γ} {E} {i} {st} {sp} eq w = from ! (subst (λ (z : Ty × ℕ). Walks (Go {0}) W Γ E (z .0, z .1, zero) st sp) (sym eq) w)
 
   -- the operands are read out of the arguments' cells
-  read-args : (τs : List Ty) (bs : Spots τs) (us : Words τs) (i : ℕ) {E : Env 𝓤 H} {Γ : List (Item 𝓤)} → Spotted (noLocal 𝓤 H) E i τs bs
+  pub read-args : (τs : List Ty) (bs : Spots τs) (us : Words τs) (i : ℕ) {E : Env 𝓤 H} {Γ : List (Item 𝓤)} → Spotted (noLocal 𝓤 H) E i τs bs
       → Opds (Go {0}) W (‵ (Cells τs bs us) ∷ Γ) E (operands i τs) (listed τs us)
   read-args [] bs us i at = no-more !
   read-args (τ ∷ τs) bs us i {E} {Γ} at = and-then ! (record { go = λ Kt h. via 𝓤 _ one (first .go Kt (via 𝓤 _ one′ h)) }) (record { go = λ Kt h. via 𝓤 _ rest (read-args τs (bs .1) (us .1) (suc i) {Γ = ‵ (fdies τ (bs .0)) ∷ ‵ (fat fullShare τ (bs .0) 0 (us .0)) ∷ Γ} (at .1) .go Kt (via 𝓤 _ rest′ h)) })
@@ -128,7 +128,7 @@ module _ {M : Type 1} {𝓤 : URA M} {H : Heap 𝓤} {A : Atoms 𝓤} (W : Given
       rest′ : ent 𝓤 (⋆ 𝓤 H A (‵ (Cells τs (bs .1) (us .1)) ∷ ‵ (fdies τ (bs .0)) ∷ ‵ (fat fullShare τ (bs .0) 0 (us .0)) ∷ Γ)) (⋆ 𝓤 H A (‵ (Cells (τ ∷ τs) bs us) ∷ Γ))
       rest′ = qed W (‵ (Cells τs (bs .1) (us .1)) ∷ ‵ (fdies τ (bs .0)) ∷ ‵ (fat fullShare τ (bs .0) 0 (us .0)) ∷ Γ) (move ! (1 ∷ 0 ∷ []) $ fjoin ! $ move ! (1 ∷ 0 ∷ []) $ fjoin ! $ by ! (id⊢ 𝓤 _))
 
-  second : {i : Item 𝓤} {F : Fml} {Γ : List (Item 𝓤)} {E : Env 𝓤 H} {xs : List Operand} {vs : List Val} → Opds (Go {0}) W (‵ F ∷ i ∷ Γ) E xs vs → Opds (Go {0}) W (i ∷ ‵ F ∷ Γ) E xs vs
+  pub second : {i : Item 𝓤} {F : Fml} {Γ : List (Item 𝓤)} {E : Env 𝓤 H} {xs : List Operand} {vs : List Val} → Opds (Go {0}) W (‵ F ∷ i ∷ Γ) E xs vs → Opds (Go {0}) W (i ∷ ‵ F ∷ Γ) E xs vs
   second {i} {F} {Γ} os = record { go = λ Kt h. via 𝓤 _ (qed W (i ∷ ‵ F ∷ Γ) (move ! (1 ∷ 0 ∷ []) $ by ! (id⊢ 𝓤 (⋆ 𝓤 H A (‵ F ∷ i ∷ Γ))))) (os .go Kt (via 𝓤 _ (qed W (‵ F ∷ i ∷ Γ) (move ! (1 ∷ 0 ∷ []) $ by ! (id⊢ 𝓤 (⋆ 𝓤 H A (i ∷ ‵ F ∷ Γ))))) h)) }
 
 -- ---- an argument that is handed on: its slot in the signature, its MIR type and its machine value
@@ -137,7 +137,7 @@ pub record Handed (n : ℕ) : Type 3 where
   pub ty : Ty
   pub val : (κs : Lfts n) → slot .row κs .Denot → Val
   pub tells : (κs : Lfts n) → Tells (slot .row κs) (Is (slot .row κs)) (λ x. val κs x ∷ [])
-  pub typed : (κs : Lfts n) (x : slot .row κs .Denot) → Is (slot .row κs) x (val κs x ∷ []) → Holds (hasTy ty (val κs x)) × WT (val κs x)
+  pub typed : {M : Type 1} {𝓤 : URA M} {H : Heap 𝓤} {A : Atoms 𝓤} → Given 𝓤 H A → (κs : Lfts n) (x : slot .row κs .Denot) → Is (slot .row κs) x (val κs x ∷ []) → Holds (hasTy ty (val κs x)) × WT (val κs x)
 
 pub num-ty : (w : Width) (x : ℕ) → Holds (hasTy (tyInt w) (vint w x))
 num-ty w8 x = tt
@@ -149,7 +149,7 @@ num-ty w128 x = tt
 module _ {n : ℕ} where
   -- a number; a `&[u8; k]`, a `&[u8]` and a `&mut [u8]` at the signature's lifetime j
   abbrev pub num : Width → Handed n
-  num w = record { slot = plain (λ _. UInt w); ty = tyInt w; val = λ κs x. vint w x; tells = λ κs. uint-tells w; typed = λ κs x p. (num-ty w x, record { fits = p .1 }) }
+  num w = record { slot = plain (λ _. UInt w); ty = tyInt w; val = λ κs x. vint w x; tells = λ κs. uint-tells w; typed = λ W κs x p. (num-ty w x, record { fits = p .1 }) }
 
   abbrev pub octets : (j : ℕ) (ok : AllWithin n (j ∷ [])) (k : ℕ) → Handed n
   octets j ok k = record {
@@ -157,7 +157,7 @@ module _ {n : ℕ} where
     ty = tyRef (named j) imm (pointee (Array u8 k .written));
     val = λ κs x. vptr (x .ptr .0) (x .ptr .1);
     tells = λ κs. shr-tells (named j) (meetAt n (j ∷ []) ok κs) (Array u8 k);
-    typed = λ κs x p. (tt, tt);
+    typed = λ W κs x p. (tt, tt);
   }
 
   abbrev pub bytes : (j : ℕ) (ok : AllWithin n (j ∷ [])) → Handed n
@@ -166,7 +166,7 @@ module _ {n : ℕ} where
     ty = sliceTy (tyRef (named j) imm (pointee (u8 .written)));
     val = λ κs x. sliceVal (x .ptr) (length (x .now));
     tells = λ κs. shr-slice-tells (named j) (meetAt n (j ∷ []) ok κs) u8;
-    typed = λ κs x p. (tt, (tt, (record { fits = p .0 .1 .0 }, tt)));
+    typed = λ W κs x p. (tt, (tt, (record { fits = p .0 .1 .0 }, tt)));
   }
 
   abbrev pub bytes-mut : (j : ℕ) (ok : AllWithin n (j ∷ [])) → Handed n
@@ -175,7 +175,26 @@ module _ {n : ℕ} where
     ty = sliceTy (tyRef (named j) mut (pointee (u8 .written)));
     val = λ κs x. sliceVal (x .ptr) (length (x .now));
     tells = λ κs. mut-slice-tells (named j) (meetAt n (j ∷ []) ok κs) u8;
-    typed = λ κs x p. (tt, (tt, (record { fits = p .0 .1 .0 }, tt)));
+    typed = λ W κs x p. (tt, (tt, (record { fits = p .0 .1 .0 }, tt)));
+  }
+
+  -- a struct by value, and a `&mut` to one
+  abbrev pub struct : (T : Declared) → LL.Laws T → Handed n
+  struct T laws = record {
+    slot = plain (λ _. row T);
+    ty = layout (shape T);
+    val = λ κs x. LL.val T laws x;
+    tells = λ κs. LL.tells T laws;
+    typed = λ {M} {𝓤} {H} {A} W κs x p. LL.lawful T laws 𝓤 H A W .typed x _ p .0;
+  }
+
+  abbrev pub struct-mut : (j : ℕ) (ok : AllWithin n (j ∷ [])) (T : Declared) → Handed n
+  struct-mut j ok T = record {
+    slot = mutRefTo (j ∷ []) ok (plain (λ _. row T));
+    ty = tyRef (named j) mut (pointee (row T .written));
+    val = λ κs x. vptr (x .ptr .0) (x .ptr .1);
+    tells = λ κs. mut-tells (named j) (meetAt n (j ∷ []) ok κs) (row T);
+    typed = λ W κs x p. (tt, tt);
   }
 
   abbrev pub slots : List (Handed n) → List (Slot n)
@@ -191,10 +210,10 @@ module _ {n : ℕ} where
   tys (g ∷ hs) = g .ty ∷ tys hs
 
   -- at exit there is had of an argument what is said of it
-  abbrev said-of : (s : Slot n) → Stay s yes
+  abbrev pub said-of : (s : Slot n) → Stay s yes
   said-of s = record { fit = λ κs x f. Unit {0}; has = λ κs x f vs. left (s .row κs .exit yes) x f }
 
-  abbrev dropped : (hs : List (Handed n)) → Stays (slots hs) (keeps hs)
+  abbrev pub dropped : (hs : List (Handed n)) → Stays (slots hs) (keeps hs)
   dropped [] = tt
   dropped (g ∷ hs) = (said-of (g .slot), dropped hs)
 
@@ -213,28 +232,28 @@ module _ {n : ℕ} where
     abbrev pub spelled : (hs : List (Handed n)) → Given-to hs → Valss (typesAt (slots hs) κs)
     spelled hs a = valss (typesAt (slots hs) κs) (spelling hs) a
 
-    telling : (hs : List (Handed n)) → Tellss (typesAt (slots hs) κs) (Ises (typesAt (slots hs) κs)) (spelling hs)
+    pub telling : (hs : List (Handed n)) → Tellss (typesAt (slots hs) κs) (Ises (typesAt (slots hs) κs)) (spelling hs)
     telling [] = tt
     telling (g ∷ hs) = (g .tells κs, telling hs)
 
-    flat-is : (hs : List (Handed n)) (a : Given-to hs) → flat (typesAt (slots hs) κs) (spelled hs a) ≡ listed (tys hs) (words hs a)
+    pub flat-is : (hs : List (Handed n)) (a : Given-to hs) → flat (typesAt (slots hs) κs) (spelled hs a) ≡ listed (tys hs) (words hs a)
     flat-is [] a = refl
     flat-is (g ∷ hs) a = ap (λ (us : List Val). g .val κs (a .0) ∷ us) (flat-is hs (a .1))
 
-    all-good : (hs : List (Handed n)) (a : Given-to hs) → Are (typesAt (slots hs) κs) (Ises (typesAt (slots hs) κs)) a (spelled hs a) → Good (tys hs) (words hs a)
-    all-good [] a are = tt
-    all-good (g ∷ hs) a are = (g .typed κs (a .0) (are .0), all-good hs (a .1) (are .1))
+    pub all-good : {M : Type 1} {𝓤 : URA M} {H : Heap 𝓤} {A : Atoms 𝓤} → Given 𝓤 H A → (hs : List (Handed n)) (a : Given-to hs) → Are (typesAt (slots hs) κs) (Ises (typesAt (slots hs) κs)) a (spelled hs a) → Good (tys hs) (words hs a)
+    all-good W [] a are = tt
+    all-good W (g ∷ hs) a are = (g .typed W κs (a .0) (are .0), all-good W hs (a .1) (are .1))
 
-    fit-all : (hs : List (Handed n)) (a : Given-to hs) (ws : Fins κs (slots hs) (keeps hs) a) → fitsOf κs (slots hs) (keeps hs) (dropped hs) a ws
+    pub fit-all : (hs : List (Handed n)) (a : Given-to hs) (ws : Fins κs (slots hs) (keeps hs) a) → fitsOf κs (slots hs) (keeps hs) (dropped hs) a ws
     fit-all [] a ws = tt
     fit-all (g ∷ hs) a ws = (tt, fit-all hs (a .1) (ws .1))
 
-    have-last : {M : Type 1} (𝓤 : URA M) (H : Heap 𝓤) (A : Atoms 𝓤) (hs : List (Handed n)) (a : Given-to hs) (ws : Fins κs (slots hs) (keeps hs) a) (vss : Valss (typesAt (slots hs) κs))
+    pub have-last : {M : Type 1} (𝓤 : URA M) (H : Heap 𝓤) (A : Atoms 𝓤) (hs : List (Handed n)) (a : Given-to hs) (ws : Fins κs (slots hs) (keeps hs) a) (vss : Valss (typesAt (slots hs) κs))
         → ent 𝓤 (sem 𝓤 H A (lastsOf κs (slots hs) (keeps hs) a ws)) (sem 𝓤 H A (hasOf κs (slots hs) (keeps hs) (dropped hs) a ws vss))
     have-last 𝓤 H A [] a ws vss = id⊢ 𝓤 (emp 𝓤)
     have-last 𝓤 H A (g ∷ hs) a ws vss = monoR 𝓤 (sem 𝓤 H A (left (g .slot .row κs .exit yes) (a .0) (ws .0))) (have-last 𝓤 H A hs (a .1) (ws .1) (vss .1))
 
-  go-dropped : {M : Type 1} (𝓤 : URA M) (H : Heap 𝓤) (A : Atoms 𝓤) (W : Given 𝓤 H A) (hs : List (Handed n)) → AllGo 𝓤 H A W n (slots hs) (keeps hs) (dropped hs)
+  pub go-dropped : {M : Type 1} (𝓤 : URA M) (H : Heap 𝓤) (A : Atoms 𝓤) (W : Given 𝓤 H A) (hs : List (Handed n)) → AllGo 𝓤 H A W n (slots hs) (keeps hs) (dropped hs)
   go-dropped 𝓤 H A W [] = tt
   go-dropped 𝓤 H A W (g ∷ hs) = ((λ κs x f vs ok. W .laws .⇛-intro (sem 𝓤 H A (left (g .slot .row κs .exit yes) x f))), go-dropped 𝓤 H A W hs)
 
@@ -438,7 +457,7 @@ module _ (L : Lendable) where
         (allocs (fn .locals) (λ E. params′ E (vptr b o ∷ listed τs (words κs hs a)) (runs C Λ E (fn .body) (atRet E Post))))
 
     pub by-value : {M : Type 1} {𝓤 : URA M} {H : Heap 𝓤} {A : Atoms 𝓤} (W : Given 𝓤 H A) (g : Name) (p io it : ℕ) → Placed W τs io it → Ran W g (lent-fn g p io it)
-    by-value W g p io it placed C Λ fm κs a are = lend W C Λ fm g τs (words κs hs a) (all-good κs hs a are) io it placed
+    by-value W g p io it placed C Λ fm κs a are = lend W C Λ fm g τs (words κs hs a) (all-good κs W hs a are) io it placed
 
     module _ {M : Type 1} (𝓤 : URA M) (H : Heap 𝓤) (A : Atoms 𝓤) (W : Given 𝓤 H A) (c : Clauses 𝓤 Lent) (g : Name) (fn : Fn) (ran : Ran W g fn) (Φ : (κs : Lfts (suc m)) → Rec → (a : Denots (Types κs)) → Res → Fins κs (slots hs) (keeps hs) a → Type 0) where
       -- what g ensures: Φ of the outcome and of the arguments' last values
@@ -494,4 +513,4 @@ module _ (L : Lendable) where
 
     pub with-buffer : {M : Type 1} {𝓤 : URA M} {H : Heap 𝓤} {A : Atoms 𝓤} (W : Given 𝓤 H A) (g : Name) (p io it ip is : ℕ) → Buf-placed W j (tys hs) io it ip is → Ran m (bytes-mut j ok ∷ hs) W g (buf-fn g p io it ip is)
     with-buffer W g p io it ip is placed C Λ fm κs a are =
-        lend-buf W C Λ fm g j (tys hs) (a .0 .ptr) (length (a .0 .now)) (are .0 .0 .1 .0) (words κs hs (a .1)) (all-good κs hs (a .1) (are .1)) io it ip is placed
+        lend-buf W C Λ fm g j (tys hs) (a .0 .ptr) (length (a .0 .now)) (are .0 .0 .1 .0) (words κs hs (a .1)) (all-good κs W hs (a .1) (are .1)) io it ip is placed

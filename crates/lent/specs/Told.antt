@@ -3,11 +3,15 @@ use Prim.Native.Nat.{ℕ, min}
 use mathlib.Core.Bool.{cond}
 use mathlib.Core.Option.{Option, none, some}
 use lib.Dec.{eqb}
+use lib.ListN.{take}
 use Rattle.machine.specs.Valid.{validSetup}
+use Rattle.machine.specs.Events as machine
 use Rattle.network.specs.declared.Network.{Network}
 use Rattle.network.specs.Lens.{newNetwork}
 use Rattle.network.specs.Events as floor
+use Rattle.events.specs.Event.{eventFrom}
 use Rattle.floor_link.specs.Answered.{answerAlone}
+use Rattle.lent.specs.declared.Asked.{Asked}
 use Rattle.lent.specs.declared.Line.{Line}
 use Rattle.lent.specs.declared.Outcome.{Outcome}
 
@@ -30,3 +34,7 @@ oldNamed n = cond (eqb n 4294967295) none (some (min n 65535))
 unfoldable pub setUpOver : Network → ℕ → ℕ → ℕ → floor.Reply
 setUpOver w n t r =
     cond (validSetup n t r) (record { line = answerAlone 0; network = newNetwork n t r }) (record { line = answerAlone 14; network = w })
+
+-- what is asked
+abbrev pub askedOf : Asked → machine.Event
+askedOf q = eventFrom (q .event) (take (q .len) (q .context))

@@ -1,13 +1,20 @@
-// A network's set-up and events as a caller lends its record: by value, the record first, and what is answered in numbers.
+// A network's calls as a caller that lends its record makes them: what is asked of it, by value, and what it answers, in numbers.
+use events::Event;
+use events::Kind;
 use floor_link::Reply;
 use joining::Old;
 use network::Network;
 ghost use mathlib.Core.Path.{_≡_};
+ghost use Prim.Native.Nat.{min};
+ghost use mathlib.Core.List.{[]};
+ghost use mathlib.Core.Option.{none};
+ghost use lib.ListN.{take};
 ghost use Rattle.machine.specs.Events as machine;
 ghost use Rattle.joining.specs.Join.{oldOf};
+ghost use Rattle.events.specs.Event.{eventAs};
 ghost use Rattle.network.specs.Events.{eventOf};
 ghost use Rattle.floor_link.specs.Answered.{replyFrom};
-ghost use Rattle.lent.specs.Told.{toldOf, oldNamed, setUpOver};
+ghost use Rattle.lent.specs.Told.{toldOf, oldNamed, setUpOver, askedOf};
 
 // ANSWER, SENT, GIVENUP, HELD and TABLES, each as document 01's number.
 #[repr(C)]
@@ -87,55 +94,106 @@ pub fn set_up(network: Network, ap_count: u16, timeout: u16, resend_limit: u16) 
     }
 }
 
-pub fn join(
-    network: Network,
-    at: u16,
-    station: &[u8; 6],
-    sequence: u16,
-    old: u32,
-    context: &[u8],
-) -> Outcome
-    ensures { λ r. ⌜ toldOf r ≡ eventOf network (machine.join at (now (station .entry)) sequence (oldNamed old) (now (context .entry))) ⌝ }
+// What is asked: an event, with a join's context in the first `len` octets. A context of more than 64 octets is 9, whatever else it has, so
+// 65 of them are enough.
+pub struct Asked {
+    pub event: Event,
+    pub len: usize,
+    pub context: [u8; 65],
+}
+
+// The number, or 65 where it is greater.
+fn at_most_65(n: usize) -> usize
+    ensures { λ r. ⌜ r ≡ min n 65 ⌝ }
+{
+    if 65 < n {
+        return 65;
+    }
+    n
+}
+
+// An event with no context. What it has no use for is 0.
+fn plainly(kind: Kind, at: u16, station: [u8; 6]) -> Asked
+    ensures { λ r. ⌜ askedOf r ≡ eventAs kind at station 0 none [] ⌝ }
+{
+    Asked {
+        event: Event {
+            kind,
+            at,
+            station,
+            sequence: 0,
+            old: Old::Nothing,
+        },
+        len: 0,
+        context: [0u8; 65],
+    }
+}
+
+pub fn join(at: u16, station: &[u8; 6], sequence: u16, old: u32, context: &[u8]) -> Asked
+    ensures { λ r. ⌜ askedOf r ≡ machine.join at (now (station .entry)) sequence (oldNamed old) (take 65 (now (context .entry))) ⌝ }
 {
     let s = *station;
     let from = old_named(old);
-    in_numbers(floor_link::join(network, at, s, sequence, from, context))
+    let n = at_most_65(context.len());
+    let mut octets = [0u8; 65];
+    bytes::copy(&context[..n], &mut octets);
+    Asked {
+        event: Event {
+            kind: Kind::Join,
+            at,
+            station: s,
+            sequence,
+            old: from,
+        },
+        len: n,
+        context: octets,
+    }
 }
 
-pub fn leave(network: Network, at: u16, station: &[u8; 6]) -> Outcome
-    ensures { λ r. ⌜ toldOf r ≡ eventOf network (machine.leave at (now (station .entry))) ⌝ }
+pub fn leave(at: u16, station: &[u8; 6]) -> Asked
+    ensures { λ r. ⌜ askedOf r ≡ machine.leave at (now (station .entry)) ⌝ }
 {
     let s = *station;
-    in_numbers(floor_link::leave(network, at, s))
+    plainly(Kind::Leave, at, s)
 }
 
-pub fn deliver(network: Network, packet: u16) -> Outcome
-    ensures { λ r. ⌜ toldOf r ≡ eventOf network (machine.deliver packet) ⌝ }
+pub fn deliver(packet: u16) -> Asked
+    ensures { λ r. ⌜ askedOf r ≡ machine.deliver packet ⌝ }
 {
-    in_numbers(floor_link::deliver(network, packet))
+    plainly(Kind::Deliver, packet, [0u8; 6])
 }
 
-pub fn repeat(network: Network, packet: u16) -> Outcome
-    ensures { λ r. ⌜ toldOf r ≡ eventOf network (machine.repeat packet) ⌝ }
+pub fn repeat(packet: u16) -> Asked
+    ensures { λ r. ⌜ askedOf r ≡ machine.repeat packet ⌝ }
 {
-    in_numbers(floor_link::repeat(network, packet))
+    plainly(Kind::Repeat, packet, [0u8; 6])
 }
 
-pub fn lose(network: Network, packet: u16) -> Outcome
-    ensures { λ r. ⌜ toldOf r ≡ eventOf network (machine.lose packet) ⌝ }
+pub fn lose(packet: u16) -> Asked
+    ensures { λ r. ⌜ askedOf r ≡ machine.lose packet ⌝ }
 {
-    in_numbers(floor_link::lose(network, packet))
+    plainly(Kind::Lose, packet, [0u8; 6])
 }
 
-pub fn tick(network: Network, at: u16) -> Outcome
-    ensures { λ r. ⌜ toldOf r ≡ eventOf network (machine.tick at) ⌝ }
+pub fn tick(at: u16) -> Asked
+    ensures { λ r. ⌜ askedOf r ≡ machine.tick at ⌝ }
 {
-    in_numbers(floor_link::tick(network, at))
+    plainly(Kind::Tick, at, [0u8; 6])
 }
 
-pub fn who(network: Network, station: &[u8; 6]) -> Outcome
-    ensures { λ r. ⌜ toldOf r ≡ eventOf network (machine.who (now (station .entry))) ⌝ }
+pub fn who(station: &[u8; 6]) -> Asked
+    ensures { λ r. ⌜ askedOf r ≡ machine.who (now (station .entry)) ⌝ }
 {
     let s = *station;
-    in_numbers(floor_link::who(network, s))
+    plainly(Kind::Who, 0, s)
+}
+
+// What is asked, of any record: 14, then the machine's step.
+pub fn event(network: Network, q: Asked) -> Outcome
+    ensures { λ r. ⌜ toldOf r ≡ eventOf network (askedOf q) ⌝ }
+{
+    let e = q.event;
+    let context = q.context;
+    let n = at_most_65(q.len);
+    in_numbers(floor_link::event(network, e, &context[..n]))
 }

@@ -1,11 +1,14 @@
 -- What this crate's functions are lent: a network, and what a call on it answers.
 use Rattle.lending.proofs.Lent.{Lendable}
+use Rattle.lending.proofs.Passed.{Passable}
 use Rattle.lent.specs.declared.Outcome.{Outcome}
 use Rattle.network.proofs.Network as T
 use Rattle.network.proofs.Network.Laws as T′
 use Rattle.lent.proofs.Line as R
 use Rattle.lent.proofs.Line.Laws as R′
 use Rattle.lent.proofs.Outcome as O
+use Rattle.lent.proofs.Asked as Q
+use Rattle.lent.proofs.Asked.Laws as Q′
 
 abbrev pub network : Lendable
 network =
@@ -24,3 +27,7 @@ network =
       result = λ r. r .line;
       one = O.the-type .to-one;
     }
+
+-- and what is asked of it where it is passed on
+abbrev pub event : Passable
+event = record { N = T.the-type; Q = Q.the-type; asked-laws = Q′.the-laws; R = R.the-type; result-laws = R′.the-laws }

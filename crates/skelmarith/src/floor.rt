@@ -1,11 +1,13 @@
 // The floor: a network's record, lent. Each call tests the whole record first (14) and is then document 01's event; refused, the record is as
 // it came. `old` is the number of the old AP, or 4294967295 for none.
+// The record has 18 KB. All events go through one function, so that its code stands once and the record is copied in once and back once.
+use lent::Asked;
 use lent::Line;
 use network::Network;
 ghost use mathlib.Core.Path.{_≡_};
 ghost use Rattle.machine.specs.Events as machine;
 ghost use Rattle.network.specs.Events.{eventOf};
-ghost use Rattle.lent.specs.Told.{lentOf, oldNamed, setUpOver};
+ghost use Rattle.lent.specs.Told.{lentOf, oldNamed, setUpOver, askedOf};
 
 // A floor of ap_count APs, all empty, with T and R, in the place of the record: 14.
 #[no_mangle]
@@ -22,6 +24,15 @@ pub extern "C" fn skel_set_up(
     o.line
 }
 
+// What is asked, done at the record.
+fn event_at(net: &mut Network, q: Asked) -> Line
+    ensures { λ r. ⌜ lentOf r (now (net .exit)) ≡ eventOf (now (net .entry)) (askedOf q) ⌝ }
+{
+    let o = lent::event(*net, q);
+    *net = o.network;
+    o.line
+}
+
 // A station joins AP `at`, coming from the AP `old`: 14, 11, 13, 7, 9, 15, 16, 17.
 #[no_mangle]
 pub extern "C" fn skel_join(
@@ -34,9 +45,8 @@ pub extern "C" fn skel_join(
 ) -> Line
     ensures { λ r. ⌜ lentOf r (now (net .exit)) ≡ eventOf (now (net .entry)) (machine.join at (now (station .entry)) sequence (oldNamed old) (now (context .entry))) ⌝ }
 {
-    let o = lent::join(*net, at, station, sequence, old, context);
-    *net = o.network;
-    o.line
+    let q = lent::join(at, station, sequence, old, context);
+    event_at(net, q)
 }
 
 // A station leaves AP `at`: 14, 11, 13.
@@ -44,9 +54,8 @@ pub extern "C" fn skel_join(
 pub extern "C" fn skel_leave(net: &mut Network, at: u16, station: &[u8; 6]) -> Line
     ensures { λ r. ⌜ lentOf r (now (net .exit)) ≡ eventOf (now (net .entry)) (machine.leave at (now (station .entry))) ⌝ }
 {
-    let o = lent::leave(*net, at, station);
-    *net = o.network;
-    o.line
+    let q = lent::leave(at, station);
+    event_at(net, q)
 }
 
 // A packet in flight is taken out and handed to its receiver: 14, 12.
@@ -54,9 +63,8 @@ pub extern "C" fn skel_leave(net: &mut Network, at: u16, station: &[u8; 6]) -> L
 pub extern "C" fn skel_deliver(net: &mut Network, packet: u16) -> Line
     ensures { λ r. ⌜ lentOf r (now (net .exit)) ≡ eventOf (now (net .entry)) (machine.deliver packet) ⌝ }
 {
-    let o = lent::deliver(*net, packet);
-    *net = o.network;
-    o.line
+    let q = lent::deliver(packet);
+    event_at(net, q)
 }
 
 // A packet in flight is handed to its receiver and stays: 14, 12.
@@ -64,9 +72,8 @@ pub extern "C" fn skel_deliver(net: &mut Network, packet: u16) -> Line
 pub extern "C" fn skel_repeat(net: &mut Network, packet: u16) -> Line
     ensures { λ r. ⌜ lentOf r (now (net .exit)) ≡ eventOf (now (net .entry)) (machine.repeat packet) ⌝ }
 {
-    let o = lent::repeat(*net, packet);
-    *net = o.network;
-    o.line
+    let q = lent::repeat(packet);
+    event_at(net, q)
 }
 
 // A packet in flight is taken out: 14, 12.
@@ -74,9 +81,8 @@ pub extern "C" fn skel_repeat(net: &mut Network, packet: u16) -> Line
 pub extern "C" fn skel_lose(net: &mut Network, packet: u16) -> Line
     ensures { λ r. ⌜ lentOf r (now (net .exit)) ≡ eventOf (now (net .entry)) (machine.lose packet) ⌝ }
 {
-    let o = lent::lose(*net, packet);
-    *net = o.network;
-    o.line
+    let q = lent::lose(packet);
+    event_at(net, q)
 }
 
 // One tick at AP `at`: 14, 11.
@@ -84,9 +90,8 @@ pub extern "C" fn skel_lose(net: &mut Network, packet: u16) -> Line
 pub extern "C" fn skel_tick(net: &mut Network, at: u16) -> Line
     ensures { λ r. ⌜ lentOf r (now (net .exit)) ≡ eventOf (now (net .entry)) (machine.tick at) ⌝ }
 {
-    let o = lent::tick(*net, at);
-    *net = o.network;
-    o.line
+    let q = lent::tick(at);
+    event_at(net, q)
 }
 
 // Which APs have a row of the station, HELD and TABLES: 14, 13.
@@ -94,7 +99,6 @@ pub extern "C" fn skel_tick(net: &mut Network, at: u16) -> Line
 pub extern "C" fn skel_who(net: &mut Network, station: &[u8; 6]) -> Line
     ensures { λ r. ⌜ lentOf r (now (net .exit)) ≡ eventOf (now (net .entry)) (machine.who (now (station .entry))) ⌝ }
 {
-    let o = lent::who(*net, station);
-    *net = o.network;
-    o.line
+    let q = lent::who(station);
+    event_at(net, q)
 }
