@@ -1,6 +1,9 @@
 //! One access point: its record and its rules.
+//!
+//! What a record does not use is zero from set-up on: a slot that becomes free is blanked, and so are the octets of a
+//! context behind its length. A slot that was free before a call and is free after it keeps what it holds.
 
-use crate::packet::{self, Command, Octets, Packet, LONGEST_CONTEXT, STALE_MOVE, SUCCESSFUL};
+use crate::packet::{Command, Packet, LONGEST_CONTEXT, STALE_MOVE, SUCCESSFUL};
 use crate::sequence::{self, newer};
 use crate::{Refusal, Station};
 
@@ -17,7 +20,7 @@ pub struct Row {
 }
 
 impl Row {
-    const NONE: Row = Row {
+    pub const NONE: Row = Row {
         station: [0; 6],
         sequence: 0,
         context_length: 0,
@@ -29,7 +32,9 @@ impl Row {
     }
 
     fn set_context(&mut self, context: &[u8]) {
-        self.context[..context.len()].copy_from_slice(context);
+        let (used, unused) = self.context.split_at_mut(context.len());
+        used.copy_from_slice(context);
+        unused.fill(0);
         self.context_length = context.len() as u8;
     }
 }
@@ -45,7 +50,7 @@ pub struct Move {
 }
 
 impl Move {
-    const NONE: Move = Move {
+    pub const NONE: Move = Move {
         station: [0; 6],
         sequence: 0,
         old: 0,
@@ -54,17 +59,32 @@ impl Move {
         resends_left: 0,
     };
 
-    /// Its MOVE-notify, the same octets each time.
-    pub fn notice(&self) -> Octets {
-        Octets::of(&Packet {
+    /// Its MOVE-notify, the same each time.
+    pub fn notice(&self) -> Packet<'static> {
+        Packet {
             command: Command::MoveNotify,
             identifier: self.identifier,
             status: 0,
             station: self.station,
             sequence: self.sequence,
             context: &[],
-        })
+        }
     }
+}
+
+/// Whether two rows have the same station. Stations are compared as numbers, side by side in an array of their own.
+fn has_equal_stations(rows: &[Row]) -> bool {
+    let mut numbers = [0; MOST_ROWS];
+    for (number, row) in numbers.iter_mut().zip(rows) {
+        let [a, b, c, d, e, f] = row.station;
+        *number = u64::from_be_bytes([0, 0, a, b, c, d, e, f]);
+    }
+    (1..rows.len().min(MOST_ROWS)).any(|at| {
+        let (earlier, number) = (&numbers[..at], numbers[at]);
+        earlier
+            .iter()
+            .fold(false, |found, &other| found | (other == number))
+    })
 }
 
 /// Where a joining station was before.
@@ -76,15 +96,26 @@ pub enum Old {
     Other(u8),
 }
 
+impl Old {
+    /// By the number that a join gives, at AP `at` of `ap_count`.
+    pub fn of(old: Option<u32>, at: u8, ap_count: u8) -> Old {
+        match old {
+            Some(old) if old == u32::from(at) => Old::Here,
+            Some(old) if old < u32::from(ap_count) => Old::Other(old as u8),
+            _ => Old::Unknown,
+        }
+    }
+}
+
 /// What a join sends.
-#[derive(Clone, Copy, Debug)]
+#[derive(Clone, Copy, Debug, PartialEq, Eq)]
 pub enum Sending {
     Nothing,
     /// To every other AP of the floor.
-    Announcement(Octets),
+    Announcement(Packet<'static>),
     Notice {
         old: u8,
-        octets: Octets,
+        packet: Packet<'static>,
     },
 }
 
@@ -136,12 +167,8 @@ impl AccessPoint {
             return false;
         }
         let rows = self.rows();
-        let row_is_valid = |(at, row): (usize, &Row)| {
-            row.sequence <= sequence::LAST
-                && usize::from(row.context_length) <= LONGEST_CONTEXT
-                && rows[..at]
-                    .iter()
-                    .all(|earlier| earlier.station != row.station)
+        let row_is_valid = |row: &Row| {
+            row.sequence <= sequence::LAST && usize::from(row.context_length) <= LONGEST_CONTEXT
         };
         let move_is_valid = |open: &Move| {
             open.sequence <= sequence::LAST
@@ -149,7 +176,9 @@ impl AccessPoint {
                 && open.ticks_left >= 1
                 && open.resends_left <= MOST_RESENDS
         };
-        rows.iter().enumerate().all(row_is_valid) && self.moves().iter().all(move_is_valid)
+        rows.iter().all(row_is_valid)
+            && !has_equal_stations(rows)
+            && self.moves().iter().all(move_is_valid)
     }
 
     pub fn find(&self, station: Station) -> Option<usize> {
@@ -160,12 +189,14 @@ impl AccessPoint {
         self.rows
             .copy_within(at + 1..usize::from(self.row_count), at);
         self.row_count -= 1;
+        self.rows[usize::from(self.row_count)] = Row::NONE;
     }
 
     fn remove_move(&mut self, at: usize) {
         self.moves
             .copy_within(at + 1..usize::from(self.move_count), at);
         self.move_count -= 1;
+        self.moves[usize::from(self.move_count)] = Move::NONE;
     }
 
     fn take_identifier(&mut self) -> u16 {
@@ -174,8 +205,8 @@ impl AccessPoint {
         identifier
     }
 
-    /// A join whose AP number and station were accepted: 7, 9, 15, 16, 17.
-    pub fn join(&mut self, join: &Join, timeout: u16, resends: u8) -> Result<Sending, Refusal> {
+    /// Whether a join is accepted whose AP number and station were: 7, 9, 15, 16, 17. Returns the place of the station's row.
+    pub fn admit(&self, join: &Join) -> Result<Option<usize>, Refusal> {
         if join.sequence > sequence::LAST {
             return Err(Refusal::Sequence);
         }
@@ -193,28 +224,39 @@ impl AccessPoint {
         if matches!(join.old, Old::Other(_)) && usize::from(self.move_count) == MOST_MOVES {
             return Err(Refusal::MovesFull);
         }
+        Ok(found)
+    }
 
+    /// A join that was admitted, with the station's row at `found`.
+    pub fn join(
+        &mut self,
+        join: &Join,
+        found: Option<usize>,
+        timeout: u16,
+        resends: u8,
+    ) -> Sending {
         let at = found.unwrap_or_else(|| {
             let last = usize::from(self.row_count);
-            self.rows[last].station = join.station;
-            self.rows[last].context_length = 0;
+            self.rows[last] = Row {
+                station: join.station,
+                ..Row::NONE
+            };
             self.row_count += 1;
             last
         });
         self.rows[at].sequence = join.sequence;
-        Ok(match join.old {
+        match join.old {
             Old::Here => Sending::Nothing,
             Old::Unknown => {
                 self.rows[at].set_context(join.context);
-                let identifier = self.take_identifier();
-                Sending::Announcement(Octets::of(&Packet {
+                Sending::Announcement(Packet {
                     command: Command::AddNotify,
-                    identifier,
+                    identifier: self.take_identifier(),
                     status: 0,
                     station: join.station,
                     sequence: join.sequence,
                     context: &[],
-                }))
+                })
             }
             Old::Other(old) => {
                 let opened = Move {
@@ -230,10 +272,10 @@ impl AccessPoint {
                 self.opened = self.opened.wrapping_add(1);
                 Sending::Notice {
                     old,
-                    octets: opened.notice(),
+                    packet: opened.notice(),
                 }
             }
-        })
+        }
     }
 
     pub fn leave(&mut self, station: Station) {
@@ -242,8 +284,16 @@ impl AccessPoint {
         }
     }
 
+    /// How many notices the next tick sends again.
+    pub fn due(&self) -> usize {
+        self.moves()
+            .iter()
+            .filter(|open| open.ticks_left == 1 && open.resends_left > 0)
+            .count()
+    }
+
     /// One tick. `send` gets the old AP and the notice of each move that is sent again; returns how many were given up.
-    pub fn tick(&mut self, timeout: u16, mut send: impl FnMut(u8, Octets)) -> u8 {
+    pub fn tick(&mut self, timeout: u16, mut send: impl FnMut(u8, &Packet)) -> u8 {
         let mut given_up = 0;
         let mut at = 0;
         while at < usize::from(self.move_count) {
@@ -254,7 +304,7 @@ impl AccessPoint {
             } else if open.resends_left > 0 {
                 open.resends_left -= 1;
                 open.ticks_left = timeout;
-                send(open.old, open.notice());
+                send(open.old, &open.notice());
                 self.resent = self.resent.wrapping_add(1);
                 at += 1;
             } else {
@@ -266,35 +316,35 @@ impl AccessPoint {
         given_up
     }
 
-    /// A packet from `sender` is received; returns the answer to it, if it has one.
-    pub fn receive(&mut self, sender: u8, packet: &Packet) -> Option<Octets> {
-        let found = self.find(packet.station);
+    /// A packet from `sender` is received. Its answer, if it has one, goes to `answer` before the record is changed; where
+    /// `answer` refuses it the record stays.
+    pub fn receive(
+        &mut self,
+        sender: u8,
+        packet: &Packet,
+        answer: impl FnOnce(&Packet) -> Result<(), Refusal>,
+    ) -> Result<(), Refusal> {
         match packet.command {
             Command::AddNotify => {
+                let found = self.find(packet.station);
                 if let Some(at) = found.filter(|&at| newer(packet.sequence, self.rows[at].sequence))
                 {
                     self.remove_row(at);
                 }
-                None
             }
             Command::MoveNotify => {
-                let answer = |status, context| {
-                    Octets::of(&Packet {
-                        command: Command::MoveResponse,
-                        status,
-                        context,
-                        ..*packet
-                    })
-                };
-                Some(match found {
-                    None => answer(SUCCESSFUL, &[]),
-                    Some(at) if newer(packet.sequence, self.rows[at].sequence) => {
-                        let octets = answer(SUCCESSFUL, self.rows[at].context());
-                        self.remove_row(at);
-                        octets
-                    }
-                    Some(_) => answer(STALE_MOVE, &[]),
-                })
+                let found = self.find(packet.station);
+                let older = found.filter(|&at| newer(packet.sequence, self.rows[at].sequence));
+                let stale = found.is_some() && older.is_none();
+                answer(&Packet {
+                    command: Command::MoveResponse,
+                    status: if stale { STALE_MOVE } else { SUCCESSFUL },
+                    context: older.map_or(&[], |at| self.rows[at].context()),
+                    ..*packet
+                })?;
+                if let Some(at) = older {
+                    self.remove_row(at);
+                }
             }
             Command::MoveResponse => {
                 let closed = self.moves().iter().position(|open| {
@@ -302,114 +352,28 @@ impl AccessPoint {
                         && open.station == packet.station
                         && open.sequence == packet.sequence
                         && open.old == sender
-                })?;
-                self.remove_move(closed);
-                self.answered = self.answered.wrapping_add(1);
-                if let Some(at) = found.filter(|&at| self.rows[at].sequence == packet.sequence) {
-                    if packet.status == SUCCESSFUL {
-                        self.rows[at].set_context(packet.context);
-                    } else {
-                        self.remove_row(at);
-                    }
+                });
+                if let Some(closed) = closed {
+                    self.remove_move(closed);
+                    self.answered = self.answered.wrapping_add(1);
+                    self.settle(packet);
                 }
-                None
             }
         }
+        Ok(())
     }
-}
 
-/// One AP alone: its record with its own number, the floor's AP count, T and R.
-#[derive(Clone, Debug, PartialEq, Eq)]
-pub struct Alone {
-    pub number: u8,
-    pub ap_count: u8,
-    pub timeout: u16,
-    pub resends: u8,
-    pub point: AccessPoint,
-}
-
-impl Alone {
-    /// Outside bytes with a sender's number. Returns the length written at the front of `buffer`.
-    pub fn receive(
-        &mut self,
-        sender: u16,
-        octets: &[u8],
-        buffer: &mut [u8],
-    ) -> Result<usize, Refusal> {
-        let set_up =
-            (1..=8).contains(&self.ap_count) && self.timeout >= 1 && self.resends <= MOST_RESENDS;
-        if !set_up || self.number >= self.ap_count || !self.point.is_valid(self.ap_count) {
-            return Err(Refusal::Record);
-        }
-        if sender >= u16::from(self.ap_count) || sender == u16::from(self.number) {
-            return Err(Refusal::NoSuchPoint);
-        }
-        let packet = packet::read(octets)?;
-        let mut after = self.point.clone();
-        let length = match after.receive(sender as u8, &packet) {
-            None => 0,
-            Some(answer) => {
-                let answer = answer.as_slice();
-                buffer
-                    .get_mut(..answer.len())
-                    .ok_or(Refusal::ShortBuffer)?
-                    .copy_from_slice(answer);
-                answer.len()
+    /// What a MOVE-response that closed a move does to a row of its station numbered exactly as it is.
+    fn settle(&mut self, packet: &Packet) {
+        let found = self
+            .find(packet.station)
+            .filter(|&at| self.rows[at].sequence == packet.sequence);
+        if let Some(at) = found {
+            if packet.status == SUCCESSFUL {
+                self.rows[at].set_context(packet.context);
+            } else {
+                self.remove_row(at);
             }
-        };
-        self.point = after;
-        Ok(length)
-    }
-}
-
-#[cfg(test)]
-mod tests {
-    use super::*;
-
-    #[test]
-    fn outside_bytes() {
-        let station = [2, 0, 0, 0, 0, 1];
-        let mut alone = Alone {
-            number: 0,
-            ap_count: 2,
-            timeout: 1,
-            resends: 0,
-            point: AccessPoint::EMPTY,
-        };
-        let join = Join {
-            station,
-            sequence: 10,
-            old: Old::Unknown,
-            context: &[0xab],
-        };
-        alone.point.join(&join, 1, 0).unwrap();
-        let notice = [0, 1, 0, 5, 0, 18, 6, 0, 2, 0, 0, 0, 0, 1, 0, 11, 0, 0];
-        let mut buffer = [0xee; 20];
-        let before = alone.clone();
-        assert_eq!(
-            alone.receive(0, &notice, &mut buffer),
-            Err(Refusal::NoSuchPoint)
-        );
-        assert_eq!(
-            alone.receive(2, &[], &mut buffer),
-            Err(Refusal::NoSuchPoint)
-        );
-        assert_eq!(
-            alone.receive(1, &notice[..5], &mut buffer),
-            Err(Refusal::ShortHeader)
-        );
-        assert_eq!(
-            alone.receive(1, &notice, &mut buffer[..18]),
-            Err(Refusal::ShortBuffer)
-        );
-        assert_eq!((&alone, buffer), (&before, [0xee; 20]));
-        assert_eq!(alone.receive(1, &notice, &mut buffer), Ok(19));
-        assert_eq!(
-            buffer,
-            [0, 2, 0, 5, 0, 19, 6, 0, 2, 0, 0, 0, 0, 1, 0, 11, 0, 1, 0xab, 0xee]
-        );
-        assert_eq!(alone.point.row_count, 0);
-        alone.point.row_count = 17;
-        assert_eq!(alone.receive(9, &notice, &mut buffer), Err(Refusal::Record));
+        }
     }
 }

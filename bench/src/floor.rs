@@ -14,7 +14,15 @@ pub struct InFlight {
     pub octets: Octets,
 }
 
-/// The packets in flight, in order of sending.
+impl InFlight {
+    pub const NONE: InFlight = InFlight {
+        sender: 0,
+        receiver: 0,
+        octets: Octets::NONE,
+    };
+}
+
+/// The packets in flight, in order of sending. What is not used is kept as in an AP's record.
 #[derive(Clone, Debug, PartialEq, Eq)]
 pub struct Air {
     pub count: u8,
@@ -22,13 +30,9 @@ pub struct Air {
 }
 
 impl Air {
-    const EMPTY: Air = Air {
+    pub const EMPTY: Air = Air {
         count: 0,
-        packets: [InFlight {
-            sender: 0,
-            receiver: 0,
-            octets: Octets::NONE,
-        }; MOST_PACKETS],
+        packets: [InFlight::NONE; MOST_PACKETS],
     };
 
     pub fn packets(&self) -> &[InFlight] {
@@ -59,6 +63,7 @@ impl Air {
         self.packets
             .copy_within(usize::from(k) + 1..usize::from(self.count), usize::from(k));
         self.count -= 1;
+        self.packets[usize::from(self.count)] = InFlight::NONE;
         Ok(taken)
     }
 }
@@ -69,7 +74,7 @@ pub enum Event<'a> {
         at: u16,
         station: Station,
         sequence: u16,
-        old: Option<u16>,
+        old: Option<u32>,
         context: &'a [u8],
     },
     Leave {
@@ -207,32 +212,30 @@ impl Floor {
         at: u16,
         station: Station,
         sequence: u16,
-        old: Option<u16>,
+        old: Option<u32>,
         context: &[u8],
     ) -> Result<Reply, Refusal> {
         let at = self.on_floor(at)?;
         individual(station)?;
-        let old = match old.and_then(|old| self.on_floor(old).ok()) {
-            None => Old::Unknown,
-            Some(old) if old == at => Old::Here,
-            Some(old) => Old::Other(old),
-        };
         let join = Join {
             station,
             sequence,
-            old,
+            old: Old::of(old, at, self.ap_count),
             context,
         };
-        let sent = match self.points[usize::from(at)].join(&join, self.timeout, self.resends)? {
+        let point = &mut self.points[usize::from(at)];
+        let found = point.admit(&join)?;
+        let sent = match point.join(&join, found, self.timeout, self.resends) {
             Sending::Nothing => 0,
-            Sending::Announcement(octets) => {
+            Sending::Announcement(packet) => {
+                let octets = Octets::of(&packet);
                 for receiver in (0..self.ap_count).filter(|&receiver| receiver != at) {
                     self.air.send(at, receiver, octets);
                 }
                 self.ap_count - 1
             }
-            Sending::Notice { old, octets } => {
-                self.air.send(at, old, octets);
+            Sending::Notice { old, packet } => {
+                self.air.send(at, old, Octets::of(&packet));
                 1
             }
         };
@@ -251,8 +254,8 @@ impl Floor {
             ..
         } = self;
         let mut sent = 0;
-        let given_up = points[usize::from(at)].tick(*timeout, |old, octets| {
-            air.send(at, old, octets);
+        let given_up = points[usize::from(at)].tick(*timeout, |old, notice| {
+            air.send(at, old, Octets::of(notice));
             sent += 1;
         });
         Ok(Reply {
@@ -263,16 +266,17 @@ impl Floor {
     }
 
     fn hand_over(&mut self, packet: &InFlight) -> Reply {
-        // 14 keeps a packet that the reader refuses out of the air.
-        let answer = packet::read(packet.octets.as_slice())
-            .ok()
-            .and_then(|fields| {
-                self.points[usize::from(packet.receiver)].receive(packet.sender, &fields)
-            });
         let mut reply = Reply::default();
-        if let Some(octets) = answer {
-            self.air.send(packet.receiver, packet.sender, octets);
-            reply.sent = 1;
+        // 14 keeps a packet that the reader refuses out of the air.
+        if let Ok(fields) = packet::read(packet.octets.as_slice()) {
+            let Floor { points, air, .. } = self;
+            let receiver = &mut points[usize::from(packet.receiver)];
+            let received = receiver.receive(packet.sender, &fields, |answer| {
+                air.send(packet.receiver, packet.sender, Octets::of(answer));
+                reply.sent = 1;
+                Ok(())
+            });
+            debug_assert!(received.is_ok());
         }
         reply
     }
@@ -289,7 +293,7 @@ impl Floor {
     }
 }
 
-fn individual(station: Station) -> Result<(), Refusal> {
+pub(crate) fn individual(station: Station) -> Result<(), Refusal> {
     if station[0] % 2 == 1 {
         Err(Refusal::GroupStation)
     } else {

@@ -109,20 +109,23 @@ pub fn write(packet: &Packet, buffer: &mut [u8]) -> Result<usize, Refusal> {
         Some(context) if context.len() > LONGEST_CONTEXT => return Err(Refusal::Context),
         Some(context) => 18 + context.len(),
     };
-    let Some(front) = buffer.get_mut(..length) else {
+    let Some((head, rest)) = buffer
+        .get_mut(..length)
+        .and_then(|front| front.split_first_chunk_mut::<16>())
+    else {
         return Err(Refusal::ShortBuffer);
     };
-    front[0] = 0;
-    front[1] = packet.command as u8;
-    front[2..4].copy_from_slice(&packet.identifier.to_be_bytes());
-    front[4..6].copy_from_slice(&(length as u16).to_be_bytes());
-    front[6] = 6;
-    front[7] = octet_7;
-    front[8..14].copy_from_slice(&packet.station);
-    front[14..16].copy_from_slice(&packet.sequence.to_be_bytes());
-    if let Some(context) = context {
-        front[16..18].copy_from_slice(&(context.len() as u16).to_be_bytes());
-        front[18..].copy_from_slice(context);
+    let [i0, i1] = packet.identifier.to_be_bytes();
+    let [l0, l1] = (length as u16).to_be_bytes();
+    let [a, b, c, d, e, f] = packet.station;
+    let [s0, s1] = packet.sequence.to_be_bytes();
+    let command = packet.command as u8;
+    *head = [
+        0, command, i0, i1, l0, l1, 6, octet_7, a, b, c, d, e, f, s0, s1,
+    ];
+    if let (Some(context), Some((size, rest))) = (context, rest.split_first_chunk_mut()) {
+        *size = (context.len() as u16).to_be_bytes();
+        rest.copy_from_slice(context);
     }
     Ok(length)
 }

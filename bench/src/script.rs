@@ -145,7 +145,7 @@ pub fn event<'a>(line: &[u8], buffer: &'a mut ContextBuffer) -> Option<Event<'a>
         let old = if old == b"-" {
             None
         } else {
-            Some(number(old)?)
+            Some(u32::from(number(old)?))
         };
         let length = match context {
             b"-" => 0,

@@ -1,5 +1,7 @@
 //! The floor rehearsal, from standard input to standard output. With --no-14 no event tests the record.
 
+#![forbid(unsafe_code)]
+
 use std::io;
 use std::process::ExitCode;
 
