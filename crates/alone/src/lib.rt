@@ -165,9 +165,10 @@ fn post(buffer: &mut [u8], answer: Answer, sent: Outbox, given_up: u8) -> Reply
         return reply_with(Answer::BufferTooShort);
     }
     write_all(buffer, sent);
+    let count = sent.count as u8;
     Reply {
         answer: 0,
-        sent: sent.count as u8,
+        sent: count,
         given_up,
         held: 0,
         to: receivers(sent),
@@ -176,7 +177,7 @@ fn post(buffer: &mut [u8], answer: Answer, sent: Outbox, given_up: u8) -> Reply
 }
 
 // The old AP that a join names: 4294967295 is none, and a number above 65535 is no AP's.
-fn old_named(old: u32) -> Old
+pub fn old_named(old: u32) -> Old
     ensures { λ r. ⌜ oldOf r ≡ oldNamed old ⌝ }
 {
     if old == 4294967295 {

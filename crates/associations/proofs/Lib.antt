@@ -1,2 +1,3 @@
 pub mod Used
 pub mod Laws
+pub mod Apart

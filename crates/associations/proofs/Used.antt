@@ -2,7 +2,7 @@
 -- Assumes nothing.
 use Prim.Native.Nat.{ℕ, suc, _+_, _<_, _≤_}
 use mathlib.Core.Path.{_≡_, sym, ap, _∙_}
-use mathlib.Core.Bool.{Bool, true, false, _&&_, not}
+use mathlib.Core.Bool.{Bool, true, false, _&&_}
 use mathlib.Core.List.{List, [], _∷_, _++_}
 use native.Mathlib.Numerals.{add-one}
 use native.Mathlib.Nat.{add-zero}
@@ -13,21 +13,19 @@ use lib.Seq.{drop-cons, length-take-le, take-all, take-length, set-split, set-ap
 use mir.Val.{Val}
 use denote.Laws.{Is}
 use denote.Struct.Declared.{row}
-use Rattle.lists.specs.Options.{isSome}
 use Rattle.lists.specs.Places.{every}
 use Rattle.lists.specs.Search.{placed}
 use Rattle.lists.proofs.Choices.{and-false}
 use Rattle.lists.proofs.Search.{getD-used}
 use Rattle.elements.specs.declared.Association.{Association}
-use Rattle.machine.specs.Associations.{sequenceOf, padded, given, association}
-use Rattle.machine.specs.Valid.{validAssociation, distinct}
+use Rattle.machine.specs.Associations.{padded, given, association}
+use Rattle.machine.specs.Valid.{validAssociation}
 use Rattle.record.specs.declared.Associations.{Associations}
 use Rattle.record.specs.Slots.{over, noAssociation}
 use Rattle.record.specs.Lens.{getAssociations, putAssociations}
 use Rattle.record.proofs.Associations as table
 use Rattle.record.proofs.Over.{over-at, drop-rep}
 use Rattle.record.proofs.LensLaws.{association-more, associations-length}
-use Rattle.associations.specs.Rows.{isOf}
 
 -- what a read past the end of an array of rows gives, in the logic
 abbrev pub past : Association
@@ -71,30 +69,6 @@ context-over r h = rw (lt-leb (r .«context_len») 64 h, and-false)
 pub row-within : (r : Association) → r .sequence ≤ 4095 → r .«context_len» ≤ 64 → validAssociation r ≡ true
 unfolding validAssociation
 row-within r h k = rw (le-leb (r .sequence) 4095 h, le-leb (r .«context_len») 64 k)
-
--- stations that differ; b says whether a later row is of the station of row i
-module _ (n : ℕ) (rs : List Association) (i : ℕ) (l : n ≤ length rs) where
-  pub distinct-at : (b : Bool) → i < n → isSome (sequenceOf (getD rs i past .station) (drop (i + 1) (take n rs))) ≡ b
-      → distinct (drop i (take n rs)) ≡ not b && distinct (drop (i + 1) (take n rs))
-  unfolding distinct
-  distinct-at b k e = rw (used-at past n rs i l k, e)
-
-  pub distinct-end : n ≤ i → distinct (drop i (take n rs)) ≡ true
-  unfolding distinct
-  distinct-end k = rw (used-end past n rs i l k)
-
-  pub held-hit : (s : List ℕ) → i < n → isOf s (getD rs i past) ≡ true → isSome (sequenceOf s (drop i (take n rs))) ≡ true
-  unfolding sequenceOf
-  held-hit s k e = rw (used-at past n rs i l k, e)
-
-  pub held-miss : (s : List ℕ) → i < n → isOf s (getD rs i past) ≡ false
-      → isSome (sequenceOf s (drop i (take n rs))) ≡ isSome (sequenceOf s (drop (i + 1) (take n rs)))
-  unfolding sequenceOf
-  held-miss s k e = rw (used-at past n rs i l k, e)
-
-  pub held-end : (s : List ℕ) → n ≤ i → isSome (sequenceOf s (drop i (take n rs))) ≡ false
-  unfolding sequenceOf
-  held-end s k = rw (used-end past n rs i l k)
 
 -- an element placed in a list
 module _ {A : Type 0} where

@@ -78,12 +78,17 @@ pub fn place(t: Associations, i: usize, x: Association) -> Associations
     out
 }
 
-// Whether each row's sequence number and context length are within document 01's limits.
-fn within_limits(t: Associations) -> bool
-    requires { ⌜ t .count ≤ 16 ⌝ }
-    ensures { λ r. ⌜ r ≡ every validAssociation (getAssociations t) ⌝ }
+// Whether the table is one to which refusal 14 does not apply: the number of rows, each row's limits, and stations that differ.
+// A row's station is looked for among the earlier rows only where one of them ends in the same six bits.
+pub fn valid(t: Associations) -> bool
+    ensures { λ r. ⌜ r ≡ leb (t .count) 16 && (every validAssociation (getAssociations t) && distinct (getAssociations t)) ⌝ }
 {
     let n = t.count;
+    if 16 < n {
+        return false;
+    }
+    // Which last six bits the stations of the rows passed have.
+    let mut seen = [false; 64];
     let mut i: usize = 0;
     while i < n {
         let row = t.items[i];
@@ -93,46 +98,17 @@ fn within_limits(t: Associations) -> bool
         if 64 < row.context_len {
             return false;
         }
-        i += 1;
-    }
-    true
-}
-
-// Whether no two rows are of one station.
-fn all_distinct(t: Associations) -> bool
-    requires { ⌜ t .count ≤ 16 ⌝ }
-    ensures { λ r. ⌜ r ≡ distinct (getAssociations t) ⌝ }
-{
-    let n = t.count;
-    let mut i: usize = 0;
-    while i < n {
-        let row = t.items[i];
         let s = row.station;
-        let mut j = i + 1;
-        while j < n {
-            let later = t.items[j];
-            let o = later.station;
-            if stations::same_station(s, o) {
+        let h = (s[5] % 64) as usize;
+        if seen[h] {
+            if find(t, s) < i {
                 return false;
             }
-            j += 1;
         }
+        seen[h] = true;
         i += 1;
     }
     true
-}
-
-// Whether the table is one to which refusal 14 does not apply.
-pub fn valid(t: Associations) -> bool
-    ensures { λ r. ⌜ r ≡ leb (t .count) 16 && (every validAssociation (getAssociations t) && distinct (getAssociations t)) ⌝ }
-{
-    if 16 < t.count {
-        return false;
-    }
-    if !within_limits(t) {
-        return false;
-    }
-    all_distinct(t)
 }
 
 // A new row with the context given: zeros follow it.

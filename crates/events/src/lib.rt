@@ -10,12 +10,12 @@ use record::AccessPoint;
 ghost use mathlib.Core.Path.{_≡_};
 ghost use mathlib.Core.Bool.{true, cond};
 ghost use mathlib.Core.List.{map};
-ghost use Prim.Native.Nat.{_≤_, _<_};
+ghost use Prim.Native.Nat.{_+_, _*_, _≤_, _<_};
 ghost use lib.Dec.{ltb};
 ghost use lib.ListN.{take};
 ghost use Rattle.lists.specs.Places.{every, All};
 ghost use Rattle.machine.specs.Packets.{readable, octetsIn};
-ghost use Rattle.machine.specs.Events.{heldBy};
+ghost use Rattle.machine.specs.Events.{heldBy, holds};
 ghost use Rattle.record.specs.Lens.{getMoves, getPoint};
 ghost use Rattle.record.specs.Valid.{Usable};
 ghost use Rattle.joining.specs.Join.{oldOf};
@@ -167,8 +167,7 @@ pub fn action(
             context,
         ),
         Kind::Leave => actions::leave(a, at, ap_count, station),
-        Kind::Deliver => actions::receive(a, p, at, count),
-        Kind::Repeat => actions::receive(a, p, at, count),
+        Kind::Deliver | Kind::Repeat => actions::receive(a, p, at, count),
         Kind::Lose => actions::lose(a, at, count),
         Kind::Tick => actions::tick(a, at, ap_count, timeout),
         Kind::Who => actions::unchanged(a, Answer::Accepted),
@@ -187,6 +186,19 @@ pub fn settled(t: InFlights, taken: bool, k: usize, sent: Outbox) -> InFlights
     in_flight::post(t, sent)
 }
 
+// HELD from an AP on: `held` is that of the APs after it, whose bits move up, and its own is the lowest.
+pub fn held_from(a: AccessPoint, station: [u8; 6], held: u8) -> u8
+    requires { ⌜ Usable a ⌝ }
+    requires { ⌜ held < 128 ⌝ }
+    ensures { λ r. ⌜ r ≡ cond (holds station (getPoint a)) 1 0 + 2 * held ⌝ }
+{
+    let t = a.associations;
+    if associations::find(t, station) < t.count {
+        return held * 2 + 1;
+    }
+    held * 2
+}
+
 // HELD: bit i is set if AP i has a row of the station.
 pub fn holders(points: [AccessPoint; 8], ap_count: u8, station: [u8; 6]) -> u8
     requires { ⌜ («ap_count» ≤ 8) × All Usable (take «ap_count» points) ⌝ }
@@ -197,11 +209,7 @@ pub fn holders(points: [AccessPoint; 8], ap_count: u8, station: [u8; 6]) -> u8
     while 0 < i {
         i -= 1;
         let a = points[i];
-        let t = a.associations;
-        held = held * 2;
-        if associations::find(t, station) < t.count {
-            held += 1;
-        }
+        held = held_from(a, station, held);
     }
     held
 }

@@ -93,9 +93,7 @@ fn valid_packet(p: InFlight, ap_count: u8) -> bool
         return false;
     }
     let octets = p.octets;
-    let r = reader::read(&octets[..n]);
-    let answer = r.answer;
-    answers::number(answer) == 0
+    reader::accepted(&octets[..n])
 }
 
 // Whether 14 does not apply to the packets in flight: the used length and every packet.

@@ -1,8 +1,6 @@
 -- A network's events as a caller lends its record: what the code's structs mean, and set-up over a record that is there already.
-use Prim.Native.Nat.{ℕ, min}
+use Prim.Native.Nat.{ℕ}
 use mathlib.Core.Bool.{cond}
-use mathlib.Core.Option.{Option, none, some}
-use lib.Dec.{eqb}
 use lib.ListN.{take}
 use Rattle.machine.specs.Valid.{validSetup}
 use Rattle.machine.specs.Events as machine
@@ -25,10 +23,6 @@ lentOf l w = record { line = numbersOf l; network = w }
 
 abbrev pub toldOf : Outcome → floor.Reply
 toldOf r = lentOf (r .line) (r .network)
-
--- the old AP that a number names: 4294967295 is none, and whatever is above 65535 is the AP 65535, which no floor has
-unfoldable pub oldNamed : ℕ → Option ℕ
-oldNamed n = cond (eqb n 4294967295) none (some (min n 65535))
 
 -- "Whoever sets up: 14", and then the record w as it came; else n APs, "all empty at first", with T = t and R = r
 unfoldable pub setUpOver : Network → ℕ → ℕ → ℕ → floor.Reply

@@ -10,11 +10,11 @@ ghost use mathlib.Core.List.{[]};
 ghost use mathlib.Core.Option.{none};
 ghost use lib.ListN.{take};
 ghost use Rattle.machine.specs.Events as machine;
-ghost use Rattle.joining.specs.Join.{oldOf};
 ghost use Rattle.events.specs.Event.{eventAs};
 ghost use Rattle.network.specs.Events.{eventOf};
 ghost use Rattle.floor_link.specs.Answered.{replyFrom};
-ghost use Rattle.lent.specs.Told.{toldOf, oldNamed, setUpOver, askedOf};
+ghost use Rattle.alone.specs.Told.{oldNamed};
+ghost use Rattle.lent.specs.Told.{toldOf, setUpOver, askedOf};
 
 // ANSWER, SENT, GIVENUP, HELD and TABLES, each as document 01's number.
 #[repr(C)]
@@ -49,19 +49,6 @@ fn in_numbers(r: Reply) -> Outcome
             tables: l.tables,
         },
     }
-}
-
-// The old AP that a number names: 4294967295 is none. Whatever is above 65535 is the AP 65535, which no floor has.
-pub fn old_named(old: u32) -> Old
-    ensures { λ r. ⌜ oldOf r ≡ oldNamed old ⌝ }
-{
-    if old == 4294967295 {
-        return Old::Nothing;
-    }
-    if 65535 < old {
-        return Old::At(65535);
-    }
-    Old::At(old as u16)
 }
 
 fn line_of(answer: u8) -> Line
@@ -133,7 +120,7 @@ pub fn join(at: u16, station: &[u8; 6], sequence: u16, old: u32, context: &[u8])
     ensures { λ r. ⌜ askedOf r ≡ machine.join at (now (station .entry)) sequence (oldNamed old) (take 65 (now (context .entry))) ⌝ }
 {
     let s = *station;
-    let from = old_named(old);
+    let from = alone::old_named(old);
     let n = at_most_65(context.len());
     let mut octets = [0u8; 65];
     bytes::copy(&context[..n], &mut octets);

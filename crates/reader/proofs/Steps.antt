@@ -6,7 +6,7 @@ use mathlib.Core.List.{List}
 use mathlib.Core.Bool.{Bool, true, false, cond, false≢true}
 use native.Mathlib.Omega.{arith}
 use native.Mathlib.Nat.{add-sub-cancel-left}
-use borrow.Author.Tests.{eqb-false, ne-eqb}
+use borrow.Author.Tests.{eqb-true, eqb-false, ne-eqb}
 use lib.ListN.{length, take, drop, length-drop}
 use lib.Seq.{length-take-le}
 use Rattle.lists.specs.Table.{firstOf, accepts}
@@ -129,17 +129,43 @@ add-room s h z = simp (rest-from, length-drop) (omega (arith, h .add z, h .whole
 pub move-room : (s : List ℕ) → HeaderOk s → (commandIn s ≡ 0 → ⊥) → 12 ≤ length (take (length s - 6) (drop 6 s))
 move-room s h z = simp (rest-from, length-drop) (omega (arith, h .move z, h .whole))
 
+-- whatever the command
+pub data-room : (s : List ℕ) → HeaderOk s → 10 ≤ length (take (length s - 6) (drop 6 s))
+data-room s h = go (isAdd (commandIn s)) refl
+  where
+    go : (b : Bool) → isAdd (commandIn s) ≡ b → 10 ≤ length (take (length s - 6) (drop 6 s))
+    go true e = add-room s h (eqb-true (commandIn s) 0 e)
+    go false e = omega (arith, move-room s h (eqb-false (commandIn s) 0 e))
+
+-- what the data's tests answer is what its reading does
+data-answered : (c t i n : ℕ) (d : List ℕ) → dataOf c t i n d .answer ≡ firstOf (dataTests c t n d)
+unfolding dataOf
+data-answered c t i n d =
+    by-cond (λ (r : Reading). r .answer ≡ firstOf (dataTests c t n d)) (accepts (firstOf (dataTests c t n d)))
+    (λ e. sym (eqb-true (firstOf (dataTests c t n d)) 0 e)) (λ e. refl)
+
+-- and what the packet's does, after an accepted header: command c and Length n
+pub answered-by : (s : List ℕ) (c n : ℕ) → HeaderOk s → c ≡ commandIn s → n ≡ lengthIn s
+    → firstOf (dataTests c (statusIn c (take (length s - 6) (drop 6 s))) n (take (length s - 6) (drop 6 s))) ≡ readOf s .answer
+answered-by s c n h p r =
+    sym (data-answered c _ (identifierIn s) n _) ∙ ap (λ (x : Reading). x .answer) (read-by s c (identifierIn s) n h p refl r)
+
+-- refused data: a test answers k
+pub data-refused : (c t i n k : ℕ) (d : List ℕ) → k ≡ firstOf (dataTests c t n d) → (k ≡ 0 → ⊥) → refusedBy k ≡ dataOf c t i n d
+unfolding dataOf
+data-refused c t i n k d e z = rw (← e, ne-eqb k 0 z)
+
 -- accepted data with station x and sequence number q
-pub add-taken : (i : ℕ) (d x : List ℕ) (q : ℕ) → DataOk 0 0 16 d → x ≡ stationIn d → q ≡ sequenceIn d
+pub add-taken : (i : ℕ) (d x : List ℕ) (q : ℕ) → firstOf (dataTests 0 0 16 d) ≡ 0 → x ≡ stationIn d → q ≡ sequenceIn d
     → record { answer = 0; command = 0; identifier = i; status = 0; station = x; sequence = q; start = 0; len = 0 } ≡ dataOf 0 0 i 16 d
 unfolding dataOf
-add-taken i d x q h p r = rw (data-passes 0 0 16 d h, p, r)
+add-taken i d x q h p r = rw (h, p, r)
 
 -- and with a context of l octets
-pub move-taken : (c t i n : ℕ) (d x : List ℕ) (q l : ℕ) → (c ≡ 0 → ⊥) → DataOk c t n d → x ≡ stationIn d → q ≡ sequenceIn d → l ≡ contextLengthIn d
+pub move-taken : (c t i n : ℕ) (d x : List ℕ) (q l : ℕ) → (c ≡ 0 → ⊥) → firstOf (dataTests c t n d) ≡ 0 → x ≡ stationIn d → q ≡ sequenceIn d → l ≡ contextLengthIn d
     → record { answer = 0; command = c; identifier = i; status = t; station = x; sequence = q; start = 18; len = l } ≡ dataOf c t i n d
 unfolding dataOf
-move-taken c t i n d x q l z h p r e = rw (data-passes c t n d h, ne-eqb c 0 z, p, r, e)
+move-taken c t i n d x q l z h p r e = rw (h, ne-eqb c 0 z, p, r, e)
 
 -- the Length of an ADD-notify is the header's matter
 pub add-size : (i n : ℕ) (d : List ℕ) → dataOf 0 0 i 16 d ≡ dataOf 0 0 i n d

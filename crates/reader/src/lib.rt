@@ -4,10 +4,12 @@ use packet::Command;
 ghost use mathlib.Core.Path.{_≡_};
 ghost use Prim.Native.Nat.{_+_, _≤_, _<_};
 ghost use lib.ListN.{length, take, drop};
+ghost use Rattle.lists.specs.Table.{firstOf, accepts};
 ghost use Rattle.answers.specs.Numbers.{numberOf};
 ghost use Rattle.packet.specs.Fields.{octetOf};
 ghost use Rattle.packet.specs.Octets.{be16};
 ghost use Rattle.packet.specs.Layout.{statusIn};
+ghost use Rattle.reader.specs.Refusals.{dataTests};
 ghost use Rattle.reader.specs.Read.{headerOf, headOf, readingOf, refusedBy, dataOf, readOf, contextOf};
 
 // What reading a packet finds. The context block is the part of the packet from octet `start` on, of `len` octets.
@@ -108,20 +110,45 @@ fn read_header(packet: &[u8]) -> Header
     }
 }
 
+// The data's refusals, 6 to 9, in a packet with this Command octet, status and size, or Accepted.
+fn data_answer(command: u8, status: u8, size: usize, data: &[u8]) -> Answer
+    requires { ⌜ (10 ≤ length (now «data»)) × ((command ≡ 0 → ⊥) → 12 ≤ length (now «data»)) ⌝ }
+    ensures { λ r. ⌜ numberOf r ≡ firstOf (dataTests command status size (now («data» .entry))) ⌝ }
+{
+    let octets = data[0];
+    if octets != 6 {
+        return Answer::WrongAddressLength;
+    }
+    if 4095 < number_at(data, 8) {
+        return Answer::SequenceOutOfRange;
+    }
+    if 1 < status {
+        return Answer::UnknownStatus;
+    }
+    if command == 0 {
+        return Answer::Accepted;
+    }
+    let len = number_at(data, 10) as usize;
+    if 64 < len {
+        return Answer::WrongContext;
+    }
+    if size != 18 + len {
+        return Answer::WrongContext;
+    }
+    Answer::Accepted
+}
+
 // The data of an ADD-notify.
 fn read_add(identifier: u16, data: &[u8]) -> Received
     requires { ⌜ 10 ≤ length (now «data») ⌝ }
     ensures { λ r. ⌜ readingOf r ≡ dataOf 0 0 identifier 16 (now («data» .entry)) ⌝ }
 {
-    let octets = data[0];
-    if octets != 6 {
-        return refused(Answer::WrongAddressLength);
-    }
-    let sequence = number_at(data, 8);
-    if 4095 < sequence {
-        return refused(Answer::SequenceOutOfRange);
+    let a = data_answer(0, 0, 16, data);
+    if answers::number(a) != 0 {
+        return refused(a);
     }
     let station = station_at(data, 2);
+    let sequence = number_at(data, 8);
     Received {
         answer: Answer::Accepted,
         command: Command::AddNotify,
@@ -139,25 +166,13 @@ fn read_move(command: Command, status: u8, identifier: u16, size: usize, data: &
     requires { ⌜ (12 ≤ length (now «data»)) × (octetOf command ≡ 0 → ⊥) ⌝ }
     ensures { λ r. ⌜ readingOf r ≡ dataOf (octetOf command) status identifier size (now («data» .entry)) ⌝ }
 {
-    let octets = data[0];
-    if octets != 6 {
-        return refused(Answer::WrongAddressLength);
-    }
-    let sequence = number_at(data, 8);
-    if 4095 < sequence {
-        return refused(Answer::SequenceOutOfRange);
-    }
-    if 1 < status {
-        return refused(Answer::UnknownStatus);
-    }
-    let len = number_at(data, 10) as usize;
-    if 64 < len {
-        return refused(Answer::WrongContext);
-    }
-    if size != 18 + len {
-        return refused(Answer::WrongContext);
+    let a = data_answer(packet::octet(command), status, size, data);
+    if answers::number(a) != 0 {
+        return refused(a);
     }
     let station = station_at(data, 2);
+    let sequence = number_at(data, 8);
+    let len = number_at(data, 10) as usize;
     Received {
         answer: Answer::Accepted,
         command,
@@ -204,6 +219,32 @@ pub fn read(packet: &[u8]) -> Received
         return read_notify(h.identifier, h.size, data);
     }
     read_response(h.identifier, h.size, data)
+}
+
+// The status of a packet with this Command octet: only a MOVE-response has one, and 0 stands for it in the others.
+fn status_at(command: u8, data: &[u8]) -> u8
+    requires { ⌜ 1 < length (now «data») ⌝ }
+    ensures { λ r. ⌜ r ≡ statusIn command (now («data» .entry)) ⌝ }
+{
+    if command == 2 {
+        return data[1];
+    }
+    0
+}
+
+// Whether the reader accepts a packet: its tests alone, with no field read, for the test of 14, which asks no more.
+pub fn accepted(packet: &[u8]) -> bool
+    ensures { λ r. ⌜ r ≡ accepts (readOf (now (packet .entry)) .answer) ⌝ }
+{
+    let h = read_header(packet);
+    let answer = h.answer;
+    if answers::number(answer) != 0 {
+        return false;
+    }
+    let data = &packet[6..];
+    let status = status_at(h.command, data);
+    let a = data_answer(h.command, status, h.size, data);
+    answers::number(a) == 0
 }
 
 // The context block of a packet, as that part of it and no copy; empty where the packet is refused or is an ADD-notify.

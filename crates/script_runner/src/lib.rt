@@ -99,7 +99,9 @@ fn print(out: &mut [u8], at: usize, writing: bool, readable: bool, kind: Kind, l
 
 // The lines of events in s on a record to which 14 does not apply. They print at the front of out; where `writing` is false they are only
 // measured, and out stays.
-// The loop holds the record in locals, and stores the one AP and the packets in flight that an event changes.
+// The loop holds the record in locals and changes it there: a function would be handed a copy of all 64 slots, or of all eight APs, and hand
+// one back, which takes longer than the event. So the loops that take the event's packet out, put in flight what was sent, and ask the APs
+// who holds a station, stand here.
 pub fn play(network: Network, s: &[u8], out: &mut [u8], writing: bool) -> Played
     requires { ⌜ validNetworkRecord network ≡ true ⌝ }
     requires { ⌜ (writing ≡ true → length (printed network (lines (now s))) ≤ length (now out)) ⌝ }
@@ -122,7 +124,12 @@ pub fn play(network: Network, s: &[u8], out: &mut [u8], writing: bool) -> Played
         let station = e.station;
         let mut held: u8 = 0;
         if events::is_who(kind) {
-            held = events::holders(points, n, station);
+            let mut i = n as usize;
+            while 0 < i {
+                i -= 1;
+                let a = points[i];
+                held = events::held_from(a, station, held);
+            }
         }
         let number = e.at;
         let count = flight.count;
@@ -137,10 +144,30 @@ pub fn play(network: Network, s: &[u8], out: &mut [u8], writing: bool) -> Played
         let answer = y.answer;
         points[b] = point;
         let taken = events::takes(kind, number, count);
-        if taken || 0 < sent.count {
-            flight = events::settled(flight, taken, k, sent);
+        if taken {
+            let last = count - 1;
+            let mut i = k;
+            while i < last {
+                let q = flight.items[i + 1];
+                flight.items[i] = q;
+                i += 1;
+            }
+            let blank = in_flight::blank();
+            flight.items[last] = blank;
+            flight.count = last;
         }
-        let line = answer_of(kind, station, answer, sent.count as u8, y.given_up, held);
+        let sends = sent.count;
+        let mut j: usize = 0;
+        while j < sends {
+            let free = flight.count;
+            if free < 64 {
+                let q = sent.items[j];
+                flight.items[free] = q;
+                flight.count = free + 1;
+            }
+            j += 1;
+        }
+        let line = answer_of(kind, station, answer, sends as u8, y.given_up, held);
         let m = print(out, len, writing, x.readable, kind, line);
         if out.len() - len < m {
             return Played {

@@ -7,7 +7,8 @@ use network::Network;
 ghost use mathlib.Core.Path.{_≡_};
 ghost use Rattle.machine.specs.Events as machine;
 ghost use Rattle.network.specs.Events.{eventOf};
-ghost use Rattle.lent.specs.Told.{lentOf, oldNamed, setUpOver, askedOf};
+ghost use Rattle.alone.specs.Told.{oldNamed};
+ghost use Rattle.lent.specs.Told.{lentOf, setUpOver, askedOf};
 
 // A floor of ap_count APs, all empty, with T and R, in the place of the record: 14.
 #[no_mangle]

@@ -38,8 +38,8 @@ returns-2 c =
 write-all-requires : tie.Need-write-all-requires
 write-all-requires c κs = search needs
 
-cast-t6 : tie.Need-cast-t6
-cast-t6 c = search needs
+cast-count : tie.Need-cast-count
+cast-count c = search needs
 
 receivers-requires : tie.Need-receivers-requires
 receivers-requires c κs = search needs
@@ -68,7 +68,7 @@ post-spec =
     reply-with-requires-2
     returns-2
     write-all-requires
-    cast-t6
+    cast-count
     receivers-requires
     same-length
     returns-3)

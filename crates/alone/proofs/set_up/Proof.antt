@@ -34,7 +34,9 @@ reply-with-requires-2 c κs = search needs
 
 returns-2 : tie.Need-returns-2
 unfolding setUpAlone
-returns-2 c = rw (valid (c .before .before), le-ltb _ _ (c .before .if2 .taken), c .reply-with2 .ensures)
+returns-2 c =
+    let a = c .before .before .before .before .args in
+    rw (valid (c .before .before), le-ltb (a .number) (a .ap-count) (omega arith), c .reply-with2 .ensures)
 
 new-point-requires : tie.Need-new-point-requires
 new-point-requires c κs = search needs
@@ -53,7 +55,9 @@ reply-with-requires-3 c κs = search needs
 
 returns-3 : tie.Need-returns-3
 unfolding setUpAlone
-returns-3 c = rw (valid (c .before .before .before), lt-ltb _ _ (c .before .before .if2 .left), c .reply-with3 .ensures, c .before .new-point .ensures)
+returns-3 c =
+    let a = c .before .before .before .before .before .args in
+    rw (valid (c .before .before .before), lt-ltb (a .number) (a .ap-count) (omega arith), c .reply-with3 .ensures, c .before .new-point .ensures)
 
 pub set-up-spec : {M : Type 1} → statement M
 set-up-spec =

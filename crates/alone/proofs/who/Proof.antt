@@ -2,6 +2,7 @@
 -- Assumes nothing.
 use mathlib.Core.Path.{_≡_, sym, ap, _∙_}
 use mathlib.Core.Bool.{true, false}
+use native.Mathlib.Omega.{arith}
 use borrow.Author.Needs.{needs}
 use borrow.Author.Tests.{not-true, not-false, lt-ltb, le-ltb}
 use denote.Ref.{now}
@@ -59,7 +60,7 @@ returns-3 c =
     let s = d .before .before in
     let l = s .args .lone in
     ap (λ (r : Reply). record { lone = l; reply = record { answer = r .answer; sent = r .sent; «given_up» = r .«given_up»; held = 1; to = r .to; len = r .len } }) (f .before .before .reply-with3 .ensures)
-    ∙ who-told l (now (s .args .station)) (valid d) (sym (e .before .is-group .ensures) ∙ e .if2 .left) (f .find .result) true (fits (l .point) _ (s .good .0 .1 .1 .0) (usable l (valid d)) .associations) (f .find .ensures) (lt-ltb _ _ (c .if3 .taken))
+    ∙ who-told l (now (s .args .station)) (valid d) (sym (e .before .is-group .ensures) ∙ e .if2 .left) (f .find .result) true (fits (l .point) _ (s .good .0 .1 .1 .0) (usable l (valid d)) .associations) (f .find .ensures) (lt-ltb (f .find .result) (l .point .associations .count) (omega arith))
 
 returns-4 : tie.Need-returns-4
 returns-4 c =
@@ -69,7 +70,7 @@ returns-4 c =
     let s = d .before .before in
     let l = s .args .lone in
     ap (λ (r : Reply). record { lone = l; reply = r }) (f .before .before .reply-with3 .ensures)
-    ∙ who-told l (now (s .args .station)) (valid d) (sym (e .before .is-group .ensures) ∙ e .if2 .left) (f .find .result) false (fits (l .point) _ (s .good .0 .1 .1 .0) (usable l (valid d)) .associations) (f .find .ensures) (le-ltb _ _ (c .if3 .left))
+    ∙ who-told l (now (s .args .station)) (valid d) (sym (e .before .is-group .ensures) ∙ e .if2 .left) (f .find .result) false (fits (l .point) _ (s .good .0 .1 .1 .0) (usable l (valid d)) .associations) (f .find .ensures) (le-ltb (f .find .result) (l .point .associations .count) (omega arith))
 
 pub who-spec : {M : Type 1} → statement M
 who-spec =

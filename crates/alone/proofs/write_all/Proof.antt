@@ -6,9 +6,8 @@ use mathlib.Core.List.{List, _++_}
 use borrow.Author.Needs.{needs}
 use native.Mathlib.Omega.{arith}
 use denote.Ref.{now}
-use lib.ListN.{length, take, drop, getD, length-drop}
+use lib.ListN.{length, take, drop, getD, length-drop, length-take}
 use lib.Seq.{length-take-le}
-use Rattle.lists.proofs.Fronts.{rest-from}
 use Rattle.elements.specs.declared.InFlight.{InFlight}
 use Rattle.machine.specs.Packets.{octetsIn}
 use Rattle.machine.proofs.Wire.{take-short}
@@ -100,7 +99,7 @@ copy-requires c κs =
     let d = c .before .before .before .before in
     let l = d .before .loop in
     let p = packet d in
-    rw (rest-from (l .buffer) (l .at)) (omega (arith, room d, take-short (p .len) (p .octets), length-drop (l .at) (l .buffer)))
+    omega (arith, room d, take-short (p .len) (p .octets), length-take (length (l .buffer) - l .at) (drop (l .at) (l .buffer)), length-drop (l .at) (l .buffer))
 
 add-at : tie.Need-add-at Inv-loop μ-loop
 add-at c =

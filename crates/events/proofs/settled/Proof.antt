@@ -1,10 +1,9 @@
 -- `events::settled` meets its contract: where a packet is taken out, what is sent is put over what is left.
 -- Assumes nothing.
-use mathlib.Core.Path.{_∙_}
+use mathlib.Core.Path.{refl, _∙_}
 use borrow.Author.Needs.{needs}
-use Rattle.in_flight.specs.Post.{getOutbox}
-use Rattle.events.specs.Apart.{settledBy}
-use Rattle.events.proofs.Taken.{taken-few, taken-posted}
+use Rattle.lists.proofs.Choices.{not-both}
+use Rattle.events.proofs.Taken.{taken-few, settled-posted}
 use Rattle.events.proofs.settled.Statement.{statement}
 use Rattle.events.proofs.settled.Tie as tie
 
@@ -19,18 +18,17 @@ post-requires c κs =
     (taken-few (s .args .t) (s .args .k) (c .remove .result) (c .remove .ensures) (s .pre .0), s .pre .1)
 
 returns : tie.Need-returns
-unfolding settledBy
 returns c =
     let s = c .before .before .before in
-    rw (c .before .before .if1 .taken)
-    (c .post .ensures ∙ taken-posted (s .args .t) (s .args .k) (getOutbox (s .args .sent)) (c .before .remove .result) (c .before .remove .ensures))
+    c .post .ensures ∙ settled-posted (s .args .t) (s .args .k) (s .args .taken) (s .args .sent) (c .before .remove .result) (λ q. c .before .remove .ensures) (λ q. not-both (c .before .before .if1 .taken) q)
 
 post-requires-2 : tie.Need-post-requires-2
 post-requires-2 c κs = search needs
 
 returns-2 : tie.Need-returns-2
-unfolding settledBy
-returns-2 c = rw (c .before .if1 .left) (c .post2 .ensures)
+returns-2 c =
+    let s = c .before .before in
+    c .post2 .ensures ∙ settled-posted (s .args .t) (s .args .k) (s .args .taken) (s .args .sent) (s .args .t) (λ q. not-both q (c .before .if1 .left)) (λ q. refl)
 
 pub settled-spec : {M : Type 1} → statement M
 settled-spec = tie.close (tie.spec remove-requires post-requires returns post-requires-2 returns-2)

@@ -1,24 +1,16 @@
 -- `in_flight::remove` meets its contract. The loop's invariant: the packets from k up to i are those that stood after them.
 -- Assumes nothing.
-use Prim.Native.Nat.{ℕ, _≤_, _-_, _+_}
-use mathlib.Core.Path.{_≡_, ap, sym, _∙_}
-use mathlib.Core.List.{List}
+use Prim.Native.Nat.{_≤_, _-_}
+use mathlib.Core.Path.{_≡_}
 use borrow.Author.Needs.{needs}
 use native.Mathlib.Omega.{arith}
-use lib.ListN.{length, getD, set, length-map}
-use Rattle.lists.specs.Search.{shifted}
-use Rattle.lists.proofs.Search.{shift-start, shift-step}
-use Rattle.elements.specs.declared.InFlight.{InFlight}
-use Rattle.network.specs.declared.InFlights.{InFlights}
-use Rattle.in_flight.proofs.Slots.{past, packet-out}
+use lib.ListN.{length, length-map}
+use Rattle.in_flight.proofs.Slots.{upTo, up-start, up-step, up-end}
 use Rattle.in_flight.proofs.remove.Statement.{statement}
 use Rattle.in_flight.proofs.remove.Tie as tie
 
-abbrev of : List InFlight → ℕ → InFlights
-of l n = record { items = l; count = n }
-
 abbrev Inv-loop : tie.InvT-loop
-Inv-loop k out₀ last i₀ out i = (k ≤ i) × (i ≤ last) × (out ≡ of (shifted k i (out₀ .items)) (out₀ .count))
+Inv-loop k out₀ last i₀ out i = (k ≤ i) × (i ≤ last) × (out ≡ upTo out₀ k i)
 
 abbrev μ-loop : tie.MeasureT-loop
 μ-loop k out₀ last i₀ out i = last - i
@@ -26,21 +18,12 @@ abbrev μ-loop : tie.MeasureT-loop
 sub-last : tie.Need-sub-last Inv-loop μ-loop
 sub-last c = omega arith
 
--- one packet moved up
-abbrev moved : ℕ → InFlights → InFlights
-moved i o = of (set (o .items) i (getD (o .items) (i + 1) past)) (o .count)
-
--- the freed slot blanked
-abbrev freed : ℕ → InFlight → InFlights → InFlights
-freed i b o = of (set (o .items) i b) i
-
+-- 64 slots
 slots : (s : tie.Start Inv-loop μ-loop) → length (s .args .t .items) ≡ 64
 slots s = simp length-map at (s .good .0 .1 .1 .0 .1 .0 .1)
 
 loop-holds : tie.Need-loop-holds Inv-loop μ-loop
-loop-holds c =
-    let a = c .before .args .t in
-    (omega arith, omega arith, ap (λ (l : List InFlight). of l (a .count)) (sym (shift-start (c .before .args .k) (a .items))))
+loop-holds c = (omega arith, omega arith, up-start (c .before .args .t) (c .before .args .k))
 
 add-p : tie.Need-add-p Inv-loop μ-loop
 add-p c = omega arith
@@ -67,12 +50,7 @@ loop-again : tie.Need-loop-again Inv-loop μ-loop
 loop-again c =
     let h = c .before .before in
     let s = h .before .before in
-    let a = s .args .t in (
-      omega arith,
-      omega arith,
-      ap (moved (h .loop .i)) (h .loop .inv .2)
-          ∙ ap (λ (l : List InFlight). of l (a .count)) (shift-step (s .args .k) (h .loop .i) (a .items) past (h .loop .inv .0) (omega (arith, slots s))),
-    )
+    (omega arith, omega arith, up-step (s .args .t) (s .args .k) (h .loop .out) (h .loop .i) (h .loop .inv .2) (h .loop .inv .0) (omega (arith, slots s)))
 
 blank-requires : tie.Need-blank-requires Inv-loop μ-loop
 blank-requires c κs = search needs
@@ -87,11 +65,7 @@ returns : tie.Need-returns Inv-loop μ-loop
 returns c =
     let h = c .before .before in
     let s = h .before .before in
-    let a = s .args .t in
-    let n = a .count in
-    let e : h .loop .i ≡ n - 1 = omega arith in
-    ap (freed (n - 1) (c .blank .result)) (h .loop .inv .2)
-    ∙ rw (e, c .blank .ensures) (packet-out a (s .args .k) (omega arith) (omega (arith, slots s)))
+    up-end (s .args .t) (s .args .k) (h .loop .out) (h .loop .i) (c .blank .result) (h .loop .inv .2) (omega arith) (c .blank .ensures) (omega arith) (omega (arith, slots s))
 
 pub remove-spec : {M : Type 1} → statement M
 remove-spec =

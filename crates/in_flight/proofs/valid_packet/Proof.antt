@@ -1,15 +1,13 @@
 -- `in_flight::valid_packet` meets its contract, test by test; the last is the reader's, of the used octets.
 -- Assumes nothing.
 use Prim.Native.Nat.{_<_, _≤_}
-use mathlib.Core.Path.{_≡_, sym, ap, _∙_}
+use mathlib.Core.Path.{_≡_, sym, _∙_}
 use native.Mathlib.Omega.{arith}
 use borrow.Author.Needs.{needs}
 use borrow.Author.Tests.{lt-ltb, le-ltb, le-leb, lt-leb}
 use lib.ListN.{length, length-map}
 use lib.Seq.{length-take-le}
-use Rattle.lists.specs.Table.{accepts}
 use Rattle.lists.proofs.Choices.{and-false}
-use Rattle.reader.specs.Read.{Reading}
 use Rattle.machine.specs.Packets.{readable, octetsIn}
 use Rattle.machine.specs.Valid.{validInFlight}
 use Rattle.in_flight.proofs.valid_packet.Statement.{statement}
@@ -43,27 +41,23 @@ returns-3 c =
 array-share-prefix-octets : tie.Need-array-share-prefix-octets
 array-share-prefix-octets c = omega (arith, slots (c .before .before .before .before .before .before))
 
-slice-aggregate-read : tie.Need-slice-aggregate-read
-slice-aggregate-read c =
+slice-aggregate-accepted : tie.Need-slice-aggregate-accepted
+slice-aggregate-accepted c =
     let s = c .before .before .before .before .before .before .before in
     sym (length-take-le (s .args .p .len) (s .args .p .octets) (omega (arith, slots s)))
 
-read-requires : tie.Need-read-requires
-read-requires c κs = search needs
-
-number-requires : tie.Need-number-requires
-number-requires c κs = search needs
+accepted-requires : tie.Need-accepted-requires
+accepted-requires c κs = search needs
 
 returns-4 : tie.Need-returns-4
 unfolding validInFlight readable octetsIn
 returns-4 c =
-    let s = c .before .before .before .before .before .before .before .before .before in
+    let s = c .before .before .before .before .before .before .before .before in
     let p = s .args .p in
     let f : p .from < s .args .ap-count = omega arith in
     let t : p .to < s .args .ap-count = omega arith in
     let n : p .len ≤ 82 = omega arith in
-    let e = ap (λ (x : Reading). x .answer) (c .before .read .ensures) in
-    ap accepts (c .number .ensures ∙ e) ∙ sym (rw (lt-ltb _ _ f, lt-ltb _ _ t, le-leb _ _ n))
+    c .accepted .ensures ∙ sym (rw (lt-ltb _ _ f, lt-ltb _ _ t, le-leb _ _ n))
 
 pub valid-packet-spec : {M : Type 1} → statement M
 valid-packet-spec =
@@ -73,7 +67,6 @@ valid-packet-spec =
     returns-2
     returns-3
     array-share-prefix-octets
-    slice-aggregate-read
-    read-requires
-    number-requires
+    slice-aggregate-accepted
+    accepted-requires
     returns-4)

@@ -10,7 +10,7 @@ use denote.Ref.{now}
 use lib.ListN.{take, replicate}
 use lib.Seq.{length-take-le}
 use Rattle.machine.specs.Events as machine
-use Rattle.lent.specs.Told.{oldNamed}
+use Rattle.alone.specs.Told.{oldNamed}
 use Rattle.lent.proofs.Contexts.{copied}
 use Rattle.lent.proofs.join.Statement.{statement}
 use Rattle.lent.proofs.join.Tie as tie

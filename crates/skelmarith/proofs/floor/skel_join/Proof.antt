@@ -11,7 +11,8 @@ use denote.Triple.Spec.{tripleOf}
 use denote.Triple.Table.{entered, cited}
 use Rattle.machine.specs.Events as machine
 use Rattle.network.specs.Events.{eventOf}
-use Rattle.lent.specs.Told.{lentOf, askedOf, oldNamed}
+use Rattle.alone.specs.Told.{oldNamed}
+use Rattle.lent.specs.Told.{lentOf, askedOf}
 use Rattle.lent.proofs.Contexts.{join-cut}
 use Rattle.lending.proofs.Lent.{Handed, num, octets, bytes, spelled}
 use Rattle.lending.proofs.Passed.{passed-meets}
