@@ -13,7 +13,8 @@ use Rattle.network.proofs.Network.Laws as T′
 use Rattle.lent.specs.Told.{toldOf, askedOf}
 use Rattle.lent.proofs.Asked as Q
 use Rattle.lent.proofs.Asked.Laws as Q′
-use Rattle.lending.proofs.Lent.{Handed, struct, spelled, by-value, lent-meets}
+use Rattle.lending.proofs.Arguments.{Handed, struct, spelled}
+use Rattle.lending.proofs.Lent.{by-value, lent-meets}
 use Rattle.skelmarith.proofs.Lent.{network}
 use Rattle.lent.proofs.event as g
 use Rattle.lent.proofs.event.Symbol as g-def

@@ -14,7 +14,7 @@ use Rattle.network.specs.Events.{eventOf}
 use Rattle.alone.specs.Told.{oldNamed}
 use Rattle.lent.specs.Told.{lentOf, askedOf}
 use Rattle.lent.proofs.Contexts.{join-cut}
-use Rattle.lending.proofs.Lent.{Handed, num, octets, bytes, spelled}
+use Rattle.lending.proofs.Arguments.{Handed, num, octets, bytes, spelled}
 use Rattle.lending.proofs.Passed.{passed-meets}
 use Rattle.skelmarith.proofs.Lent.{event}
 use Rattle.lent.proofs.join as g

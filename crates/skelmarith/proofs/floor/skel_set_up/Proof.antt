@@ -11,7 +11,8 @@ use denote.Triple.Table.{entered, cited}
 use Rattle.network.proofs.Network as T
 use Rattle.network.proofs.Network.Laws as T′
 use Rattle.lent.specs.Told.{toldOf, setUpOver}
-use Rattle.lending.proofs.Lent.{Handed, num, spelled, by-value, lent-meets}
+use Rattle.lending.proofs.Arguments.{Handed, num, spelled}
+use Rattle.lending.proofs.Lent.{by-value, lent-meets}
 use Rattle.skelmarith.proofs.Lent.{network}
 use Rattle.lent.proofs.set_up as g
 use Rattle.lent.proofs.set_up.Symbol as g-def

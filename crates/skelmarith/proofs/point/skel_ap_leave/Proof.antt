@@ -10,7 +10,8 @@ use denote.Triple.Table.{entered, cited}
 use Rattle.record.proofs.LoneAccessPoint as T
 use Rattle.record.proofs.LoneAccessPoint.Laws as T′
 use Rattle.alone.specs.Told.{leaveAlone}
-use Rattle.lending.proofs.Lent.{Handed, octets, spelled, by-value, lent-meets}
+use Rattle.lending.proofs.Arguments.{Handed, octets, spelled}
+use Rattle.lending.proofs.Lent.{by-value, lent-meets}
 use Rattle.skelmarith.proofs.Lent.{point}
 use Rattle.alone.proofs.leave as g
 use Rattle.alone.proofs.leave.Symbol as g-def

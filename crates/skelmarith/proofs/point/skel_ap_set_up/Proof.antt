@@ -11,7 +11,8 @@ use denote.Triple.Table.{entered, cited}
 use Rattle.record.proofs.LoneAccessPoint as T
 use Rattle.record.proofs.LoneAccessPoint.Laws as T′
 use Rattle.alone.specs.Told.{setUpAlone}
-use Rattle.lending.proofs.Lent.{Handed, num, spelled, by-value, lent-meets}
+use Rattle.lending.proofs.Arguments.{Handed, num, spelled}
+use Rattle.lending.proofs.Lent.{by-value, lent-meets}
 use Rattle.skelmarith.proofs.Lent.{point}
 use Rattle.alone.proofs.set_up as g
 use Rattle.alone.proofs.set_up.Symbol as g-def

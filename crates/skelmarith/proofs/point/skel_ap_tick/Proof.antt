@@ -10,7 +10,8 @@ use denote.Triple.Table.{entered, cited}
 use Rattle.record.proofs.LoneAccessPoint as T
 use Rattle.record.proofs.LoneAccessPoint.Laws as T′
 use Rattle.alone.specs.Told.{toldOf, tickAlone}
-use Rattle.lending.proofs.Lent.{Handed, bytes-mut, spelled, with-buffer, lent-meets}
+use Rattle.lending.proofs.Arguments.{Handed, bytes-mut, spelled}
+use Rattle.lending.proofs.Lent.{with-buffer, lent-meets}
 use Rattle.skelmarith.proofs.Lent.{point}
 use Rattle.alone.proofs.tick as g
 use Rattle.alone.proofs.tick.Symbol as g-def
