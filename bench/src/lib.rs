@@ -1,4 +1,5 @@
-//! Document 01's floor in plain Rust, written from the paper alone, to compare the proved library and the rehearsal with.
+//! Document 01's floor in plain Rust, written from the paper and our readings of its open points, to compare the proved library and the
+//! rehearsal with.
 
 #![forbid(unsafe_code)]
 
