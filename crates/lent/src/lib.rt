@@ -51,6 +51,7 @@ fn in_numbers(r: Reply) -> Outcome
     }
 }
 
+// A line with nothing but its answer.
 fn line_of(answer: u8) -> Line
     ensures { λ r. ⌜ r ≡ record { answer = answer; sent = 0; «given_up» = 0; held = 0; tables = 0 } ⌝ }
 {
@@ -116,6 +117,7 @@ fn plainly(kind: Kind, at: u16, station: [u8; 6]) -> Asked
     }
 }
 
+// A station joins AP `at` with the old AP and the context that it names.
 pub fn join(at: u16, station: &[u8; 6], sequence: u16, old: u32, context: &[u8]) -> Asked
     ensures { λ r. ⌜ askedOf r ≡ machine.join at (now (station .entry)) sequence (oldNamed old) (take 65 (now (context .entry))) ⌝ }
 {
@@ -137,6 +139,7 @@ pub fn join(at: u16, station: &[u8; 6], sequence: u16, old: u32, context: &[u8])
     }
 }
 
+// A station leaves AP `at`.
 pub fn leave(at: u16, station: &[u8; 6]) -> Asked
     ensures { λ r. ⌜ askedOf r ≡ machine.leave at (now (station .entry)) ⌝ }
 {
@@ -144,30 +147,35 @@ pub fn leave(at: u16, station: &[u8; 6]) -> Asked
     plainly(Kind::Leave, at, s)
 }
 
+// A packet is taken out and handed to its receiver.
 pub fn deliver(packet: u16) -> Asked
     ensures { λ r. ⌜ askedOf r ≡ machine.deliver packet ⌝ }
 {
     plainly(Kind::Deliver, packet, [0u8; 6])
 }
 
+// A packet is handed to its receiver and stays.
 pub fn repeat(packet: u16) -> Asked
     ensures { λ r. ⌜ askedOf r ≡ machine.repeat packet ⌝ }
 {
     plainly(Kind::Repeat, packet, [0u8; 6])
 }
 
+// A packet is taken out.
 pub fn lose(packet: u16) -> Asked
     ensures { λ r. ⌜ askedOf r ≡ machine.lose packet ⌝ }
 {
     plainly(Kind::Lose, packet, [0u8; 6])
 }
 
+// One tick at AP `at`.
 pub fn tick(at: u16) -> Asked
     ensures { λ r. ⌜ askedOf r ≡ machine.tick at ⌝ }
 {
     plainly(Kind::Tick, at, [0u8; 6])
 }
 
+// Which APs have a row of the station.
 pub fn who(station: &[u8; 6]) -> Asked
     ensures { λ r. ⌜ askedOf r ≡ machine.who (now (station .entry)) ⌝ }
 {

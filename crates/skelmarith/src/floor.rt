@@ -1,6 +1,7 @@
 // The floor: a network's record, lent. Each call tests the whole record first (14) and is then document 01's event; refused, the record is as
 // it came. `old` is the number of the old AP, or 4294967295 for none.
-// The record has 18 KB. All events go through one function, so that its code stands once and the record is copied in once and back once.
+// The record has 18 KB. All events go through one function, into which everything below it is inlined: called by value from each export, an
+// event would copy the record twice more.
 use lent::Asked;
 use lent::Line;
 use network::Network;

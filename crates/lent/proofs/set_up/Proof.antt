@@ -1,12 +1,14 @@
 -- `lent::set_up` meets its contract: 14 and the record as it came, or the new network.
 -- Assumes nothing.
-use mathlib.Core.Path.{_≡_, sym, _∙_, ap}
+use mathlib.Core.Path.{_≡_, refl, sym, _∙_, ap}
 use mathlib.Core.Bool.{true}
 use borrow.Author.Needs.{needs}
 use borrow.Author.Tests.{not-true, not-false}
 use Rattle.machine.specs.Valid.{validSetup}
 use Rattle.floor_link.specs.Answered.{Started, setUpDone}
-use Rattle.lent.specs.Told.{setUpOver}
+use Rattle.network.specs.Lens.{newNetwork}
+use Rattle.lent.specs.declared.Line.{Line}
+use Rattle.lent.specs.Told.{lentOf, setUpOver}
 use Rattle.lent.proofs.set_up.Statement.{statement}
 use Rattle.lent.proofs.set_up.Tie as tie
 
@@ -29,8 +31,11 @@ line-of-requires-2 c κs = search needs
 returns-2 : tie.Need-returns-2
 unfolding setUpOver setUpDone
 returns-2 c =
-    let e : validSetup _ _ _ ≡ true = sym (c .before .before .before .before .valid-setup .ensures) ∙ not-false _ (c .before .before .before .if1 .left) in
-    rw (c .line-of2 .ensures, ap (λ (z : Started). z .network) (c .before .before .set-up .ensures), e)
+    let a = c .before .before .before .before .before .args in
+    let e : validSetup (a .ap-count) (a .timeout) (a .resend-limit) ≡ true = sym (c .before .before .before .before .valid-setup .ensures) ∙ not-false _ (c .before .before .before .if1 .left) in
+    let w : c .before .before .set-up .result .network ≡ newNetwork (a .ap-count) (a .timeout) (a .resend-limit) = ap (λ (z : Started). z .network) (c .before .before .set-up .ensures) ∙ rw e refl in
+    let l = c .line-of2 .ensures in
+    ap (λ (z : Line). lentOf z (c .before .before .set-up .result .network)) l ∙ ap (lentOf (record { answer = 0; sent = 0; «given_up» = 0; held = 0; tables = 0 })) w ∙ rw e refl
 
 pub set-up-spec : {M : Type 1} → statement M
 set-up-spec = tie.close (tie.spec valid-setup-requires line-of-requires returns set-up-requires line-of-requires-2 returns-2)
