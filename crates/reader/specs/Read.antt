@@ -3,13 +3,15 @@ use Prim.Native.Nat.{ℕ}
 use mathlib.Core.List.{List, [], _∷_}
 use mathlib.Core.Bool.{cond}
 use lib.ListN.{take, drop}
+use lib.Dec.{eqb}
 use Rattle.lists.specs.Table.{firstOf, accepts}
 use Rattle.answers.specs.Numbers.{numberOf}
+use Rattle.packet.specs.declared.Command.{Command}
+use Rattle.packet.specs.declared.Command.the-variants.{AddNotify, MoveNotify, MoveResponse}
 use Rattle.packet.specs.Fields.{octetOf}
-use Rattle.packet.specs.Layout.{commandIn, identifierIn, lengthIn, dataIn, isAdd, statusIn, stationIn, sequenceIn, contextLengthIn, contextStart}
-use Rattle.reader.specs.Refusals.{headTests, dataTests, readerTests}
+use Rattle.packet.specs.Layout.{commandIn, identifierIn, dataIn, isAdd, statusIn, stationIn, sequenceIn, contextLengthIn, contextStart}
+use Rattle.reader.specs.Refusals.{readerTests}
 use Rattle.reader.specs.declared.Received.{Received}
-use Rattle.reader.specs.declared.Header.{Header}
 
 -- what the reader answers, in numbers
 pub record Reading : Type 0 where
@@ -32,6 +34,10 @@ abbrev pub refusedBy : ℕ → Reading
 refusedBy n =
     record { answer = n; command = 0; identifier = 0; status = 0; station = 0 ∷ 0 ∷ 0 ∷ 0 ∷ 0 ∷ 0 ∷ []; sequence = 0; start = 0; len = 0 }
 
+-- the command of an octet that is at most 2
+unfoldable pub commandOf : ℕ → Command
+commandOf n = cond (eqb n 0) AddNotify (cond (eqb n 1) MoveNotify MoveResponse)
+
 -- r where the tests answer 0, else their refusal
 abbrev pub accept : ℕ → Reading → Reading
 accept n r = cond (accepts n) r (refusedBy n)
@@ -48,24 +54,3 @@ readOf s = accept (firstOf (readerTests s)) (taken (commandIn s) (statusIn (comm
 -- "the context block comes back as that part of the caller's packet"
 unfoldable pub contextOf : List ℕ → List ℕ
 contextOf s = take (readOf s .len) (drop (readOf s .start) s)
-
--- The two steps of the reader. The header:
-pub record Head : Type 0 where
-  pub answer : ℕ
-  pub command : ℕ
-  pub identifier : ℕ
-  pub size : ℕ
-
-abbrev pub headerOf : Header → Head
-headerOf h = record { answer = numberOf (h .answer); command = h .command; identifier = h .identifier; size = h .size }
-
-unfoldable pub headOf : List ℕ → Head
-headOf s =
-    cond (accepts (firstOf (headTests s)))
-    (record { answer = 0; command = commandIn s; identifier = identifierIn s; size = lengthIn s })
-    (record { answer = firstOf (headTests s); command = 0; identifier = 0; size = 0 })
-
--- "After the header is accepted, the data is read as the part that begins at octet 6": d, after a header with command c,
--- identifier i and Length n, where the status is t
-unfoldable pub dataOf : ℕ → ℕ → ℕ → ℕ → List ℕ → Reading
-dataOf c t i n d = accept (firstOf (dataTests c t n d)) (taken c t i d)

@@ -1,4 +1,5 @@
-// The reader of packets: the header first, then the data, the part that begins at octet 6.
+// The reader of packets: the refusals first, the header's and then those of the data, the part that begins at octet 6; then the
+// fields of an accepted packet.
 use answers::Answer;
 use packet::Command;
 ghost use mathlib.Core.Path.{_≡_};
@@ -6,11 +7,10 @@ ghost use Prim.Native.Nat.{_+_, _≤_, _<_};
 ghost use lib.ListN.{length, take, drop};
 ghost use Rattle.lists.specs.Table.{firstOf, accepts};
 ghost use Rattle.answers.specs.Numbers.{numberOf};
-ghost use Rattle.packet.specs.Fields.{octetOf};
 ghost use Rattle.packet.specs.Octets.{be16};
 ghost use Rattle.packet.specs.Layout.{statusIn};
-ghost use Rattle.reader.specs.Refusals.{dataTests};
-ghost use Rattle.reader.specs.Read.{headerOf, headOf, readingOf, refusedBy, dataOf, readOf, contextOf};
+ghost use Rattle.reader.specs.Refusals.{headTests, dataTests, readerTests};
+ghost use Rattle.reader.specs.Read.{readingOf, refusedBy, commandOf, readOf, contextOf};
 
 // What reading a packet finds. The context block is the part of the packet from octet `start` on, of `len` octets.
 pub struct Received {
@@ -22,14 +22,6 @@ pub struct Received {
     pub sequence: u16,
     pub start: usize,
     pub len: usize,
-}
-
-// What the header says, or its refusal.
-struct Header {
-    pub answer: Answer,
-    pub command: u8,
-    pub identifier: u16,
-    pub size: usize,
 }
 
 // The number in the two octets at i.
@@ -64,50 +56,33 @@ fn refused(a: Answer) -> Received
     }
 }
 
-fn bad_header(a: Answer) -> Header
-    ensures { λ r. ⌜ headerOf r ≡ record { answer = numberOf a; command = 0; identifier = 0; size = 0 } ⌝ }
-{
-    Header {
-        answer: a,
-        command: 0,
-        identifier: 0,
-        size: 0,
-    }
-}
-
-// The header's refusals, 1 to 5, and what it says.
-fn read_header(packet: &[u8]) -> Header
-    ensures { λ r. ⌜ headerOf r ≡ headOf (now (packet .entry)) ⌝ }
+// The header's refusals, 1 to 5, or Accepted.
+fn header_answer(packet: &[u8]) -> Answer
+    ensures { λ r. ⌜ numberOf r ≡ firstOf (headTests (now (packet .entry))) ⌝ }
 {
     if packet.len() < 6 {
-        return bad_header(Answer::PacketTooShort);
+        return Answer::PacketTooShort;
     }
     let version = packet[0];
     if version != 0 {
-        return bad_header(Answer::WrongVersion);
+        return Answer::WrongVersion;
     }
     let command = packet[1];
     if 2 < command {
-        return bad_header(Answer::UnknownCommand);
+        return Answer::UnknownCommand;
     }
-    let identifier = number_at(packet, 2);
     let size = number_at(packet, 4) as usize;
     if packet.len() < size {
-        return bad_header(Answer::PacketCut);
+        return Answer::PacketCut;
     }
     if command == 0 {
         if size != 16 {
-            return bad_header(Answer::WrongLength);
+            return Answer::WrongLength;
         }
     } else if size < 18 {
-        return bad_header(Answer::WrongLength);
+        return Answer::WrongLength;
     }
-    Header {
-        answer: Answer::Accepted,
-        command,
-        identifier,
-        size,
-    }
+    Answer::Accepted
 }
 
 // The data's refusals, 6 to 9, in a packet with this Command octet, status and size, or Accepted.
@@ -138,89 +113,6 @@ fn data_answer(command: u8, status: u8, size: usize, data: &[u8]) -> Answer
     Answer::Accepted
 }
 
-// The data of an ADD-notify.
-fn read_add(identifier: u16, data: &[u8]) -> Received
-    requires { ⌜ 10 ≤ length (now «data») ⌝ }
-    ensures { λ r. ⌜ readingOf r ≡ dataOf 0 0 identifier 16 (now («data» .entry)) ⌝ }
-{
-    let a = data_answer(0, 0, 16, data);
-    if answers::number(a) != 0 {
-        return refused(a);
-    }
-    let station = station_at(data, 2);
-    let sequence = number_at(data, 8);
-    Received {
-        answer: Answer::Accepted,
-        command: Command::AddNotify,
-        identifier,
-        status: 0,
-        station,
-        sequence,
-        start: 0,
-        len: 0,
-    }
-}
-
-// The data of a MOVE with its status, in a packet of `size` octets.
-fn read_move(command: Command, status: u8, identifier: u16, size: usize, data: &[u8]) -> Received
-    requires { ⌜ (12 ≤ length (now «data»)) × (octetOf command ≡ 0 → ⊥) ⌝ }
-    ensures { λ r. ⌜ readingOf r ≡ dataOf (octetOf command) status identifier size (now («data» .entry)) ⌝ }
-{
-    let a = data_answer(packet::octet(command), status, size, data);
-    if answers::number(a) != 0 {
-        return refused(a);
-    }
-    let station = station_at(data, 2);
-    let sequence = number_at(data, 8);
-    let len = number_at(data, 10) as usize;
-    Received {
-        answer: Answer::Accepted,
-        command,
-        identifier,
-        status,
-        station,
-        sequence,
-        start: 18,
-        len,
-    }
-}
-
-// The data of a MOVE-notify: its Reserved octet is ignored.
-fn read_notify(identifier: u16, size: usize, data: &[u8]) -> Received
-    requires { ⌜ 12 ≤ length (now «data») ⌝ }
-    ensures { λ r. ⌜ readingOf r ≡ dataOf 1 0 identifier size (now («data» .entry)) ⌝ }
-{
-    read_move(Command::MoveNotify, 0, identifier, size, data)
-}
-
-// The data of a MOVE-response.
-fn read_response(identifier: u16, size: usize, data: &[u8]) -> Received
-    requires { ⌜ 12 ≤ length (now «data») ⌝ }
-    ensures { λ r. ⌜ readingOf r ≡ dataOf 2 (statusIn 2 (now («data» .entry))) identifier size (now («data» .entry)) ⌝ }
-{
-    let status = data[1];
-    read_move(Command::MoveResponse, status, identifier, size, data)
-}
-
-// Reads a packet: the header, then the data by its command.
-pub fn read(packet: &[u8]) -> Received
-    ensures { λ r. ⌜ readingOf r ≡ readOf (now (packet .entry)) ⌝ }
-{
-    let h = read_header(packet);
-    let answer = h.answer;
-    if answers::number(answer) != 0 {
-        return refused(answer);
-    }
-    let data = &packet[6..];
-    if h.command == 0 {
-        return read_add(h.identifier, data);
-    }
-    if h.command == 1 {
-        return read_notify(h.identifier, h.size, data);
-    }
-    read_response(h.identifier, h.size, data)
-}
-
 // The status of a packet with this Command octet: only a MOVE-response has one, and 0 stands for it in the others.
 fn status_at(command: u8, data: &[u8]) -> u8
     requires { ⌜ 1 < length (now «data») ⌝ }
@@ -232,19 +124,80 @@ fn status_at(command: u8, data: &[u8]) -> u8
     0
 }
 
+// The refusal of a packet, 1 to 9, the first that applies, or Accepted.
+pub fn answer(packet: &[u8]) -> Answer
+    ensures { λ r. ⌜ numberOf r ≡ firstOf (readerTests (now (packet .entry))) ⌝ }
+{
+    let h = header_answer(packet);
+    if answers::number(h) != 0 {
+        return h;
+    }
+    let command = packet[1];
+    let size = number_at(packet, 4) as usize;
+    let data = &packet[6..];
+    let status = status_at(command, data);
+    data_answer(command, status, size, data)
+}
+
 // Whether the reader accepts a packet: its tests alone, with no field read, for the test of 14, which asks no more.
 pub fn accepted(packet: &[u8]) -> bool
     ensures { λ r. ⌜ r ≡ accepts (readOf (now (packet .entry)) .answer) ⌝ }
 {
-    let h = read_header(packet);
-    let answer = h.answer;
-    if answers::number(answer) != 0 {
-        return false;
-    }
-    let data = &packet[6..];
-    let status = status_at(h.command, data);
-    let a = data_answer(h.command, status, h.size, data);
+    let a = answer(packet);
     answers::number(a) == 0
+}
+
+// The command of a Command octet that is at most 2.
+pub fn command_of(octet: u8) -> Command
+    ensures { λ r. ⌜ r ≡ commandOf octet ⌝ }
+{
+    if octet == 0 {
+        return Command::AddNotify;
+    }
+    if octet == 1 {
+        return Command::MoveNotify;
+    }
+    Command::MoveResponse
+}
+
+// The fields of an accepted packet: an ADD-notify has no context, and the context block of a MOVE starts at octet 18.
+pub fn fields(packet: &[u8]) -> Received
+    requires { ⌜ firstOf (readerTests (now packet)) ≡ 0 ⌝ }
+    ensures { λ r. ⌜ readingOf r ≡ readOf (now (packet .entry)) ⌝ }
+{
+    let octet = packet[1];
+    let identifier = number_at(packet, 2);
+    let data = &packet[6..];
+    let station = station_at(data, 2);
+    let sequence = number_at(data, 8);
+    let status = status_at(octet, data);
+    let mut start: usize = 0;
+    let mut len: usize = 0;
+    if octet != 0 {
+        start = 18;
+        len = number_at(data, 10) as usize;
+    }
+    Received {
+        answer: Answer::Accepted,
+        command: command_of(octet),
+        identifier,
+        status,
+        station,
+        sequence,
+        start,
+        len,
+    }
+}
+
+// Reads a packet: its refusal, or its fields.
+pub fn read(packet: &[u8]) -> Received
+    ensures { λ r. ⌜ readingOf r ≡ readOf (now (packet .entry)) ⌝ }
+{
+    let a = answer(packet);
+    if answers::number(a) != 0 {
+        return refused(a);
+    }
+    fields(packet)
 }
 
 // The context block of a packet, as that part of it and no copy; empty where the packet is refused or is an ADD-notify.

@@ -2,9 +2,7 @@
 use Prim.Native.Nat.{ℕ}
 use mathlib.Core.Bool.{cond}
 use mathlib.Core.List.{List}
-use lib.Dec.{ltb, eqb}
-use Rattle.packet.specs.declared.Command.{Command}
-use Rattle.packet.specs.declared.Command.the-variants.{AddNotify, MoveNotify, MoveResponse}
+use lib.Dec.{ltb}
 use Rattle.packet.specs.Fields.{fieldsOf}
 use Rattle.reader.specs.Read as reader
 use Rattle.writer.specs.Write.{Writing, writeTo}
@@ -20,16 +18,12 @@ readingIn r =
 abbrev pub writingIn : Written → List ℕ → Writing
 writingIn r b = record { answer = r .answer; len = r .len; buffer = b }
 
--- the command of an octet that is at most 2
-unfoldable pub commandOf : ℕ → Command
-commandOf n = cond (eqb n 0) AddNotify (cond (eqb n 1) MoveNotify MoveResponse)
-
 -- "3: Command above 02", before the writer's own numbers; else the packet of this command is written
 unfoldable pub writeAs : ℕ → ℕ → ℕ → List ℕ → ℕ → List ℕ → List ℕ → Writing
 writeAs c i t s n x b =
     cond (ltb 2 c)
     (record { answer = 3; len = 0; buffer = b })
-    (writeTo (fieldsOf (record { command = commandOf c; identifier = i; status = t; station = s; sequence = n }) x) b)
+    (writeTo (fieldsOf (record { command = reader.commandOf c; identifier = i; status = t; station = s; sequence = n }) x) b)
 
 abbrev pub rehearsedIn : Written → List ℕ → played.Rehearsed
 rehearsedIn r b = record { answer = r .answer; len = r .len; buffer = b }

@@ -1,9 +1,8 @@
 // Packets over slices.
-use packet::Command;
 use packet::Packet;
 ghost use mathlib.Core.Path.{_≡_};
 ghost use Rattle.reader.specs.Read.{readOf};
-ghost use Rattle.skelmarith.specs.Packets.{readingIn, writingIn, writeAs, commandOf};
+ghost use Rattle.skelmarith.specs.Packets.{readingIn, writingIn, writeAs};
 
 // What reading a packet finds, in numbers. The context block is the part of the packet from octet `start` on, of `len` octets.
 #[repr(C)]
@@ -30,12 +29,24 @@ pub struct Written {
 pub extern "C" fn skel_read(packet: &[u8]) -> Reading
     ensures { λ r. ⌜ readingIn r ≡ readOf (now (packet .entry)) ⌝ }
 {
-    let r = reader::read(packet);
-    let answer = r.answer;
+    let answer = reader::answer(packet);
+    if answers::number(answer) != 0 {
+        return Reading {
+            answer: answers::number(answer),
+            command: 0,
+            identifier: 0,
+            status: 0,
+            station: [0; 6],
+            sequence: 0,
+            start: 0,
+            len: 0,
+        };
+    }
+    let r = reader::fields(packet);
     let command = r.command;
     let station = r.station;
     Reading {
-        answer: answers::number(answer),
+        answer: 0,
         command: packet::octet(command),
         identifier: r.identifier,
         status: r.status,
@@ -44,19 +55,6 @@ pub extern "C" fn skel_read(packet: &[u8]) -> Reading
         start: r.start,
         len: r.len,
     }
-}
-
-// The command of a Command octet that is at most 2.
-fn command_of(octet: u8) -> Command
-    ensures { λ r. ⌜ r ≡ commandOf octet ⌝ }
-{
-    if octet == 0 {
-        return Command::AddNotify;
-    }
-    if octet == 1 {
-        return Command::MoveNotify;
-    }
-    Command::MoveResponse
 }
 
 // Writes a packet at the front of the buffer: 3 for a command above 2, then 7, 8, 9, 10; refused, the buffer is as it came.
@@ -77,7 +75,7 @@ pub extern "C" fn skel_write(
     }
     let s = *station;
     let p = Packet {
-        command: command_of(command),
+        command: reader::command_of(command),
         identifier,
         status,
         station: s,

@@ -1,7 +1,9 @@
 -- `reader::data_answer` meets its contract: each refusal is told by the tests before it; accepted data meets the facts of `DataOk`.
 -- Assumes nothing.
 use borrow.Author.Needs.{needs}
+use borrow.Author.Tests.{lt-ltb, le-ltb, eq-eqb, ne-eqb}
 use native.Mathlib.Omega.{arith}
+use Prim.Native.Nat.{_+_}
 use mathlib.Core.Path.{sym}
 use Rattle.lists.proofs.Tables.{tests}
 use Rattle.reader.specs.Refusals.{dataTests}
@@ -25,7 +27,9 @@ returns-2 c = search (tests, ← (c .before .number-at .ensures))
 
 returns-3 : tie.Need-returns-3
 unfolding dataTests
-returns-3 c = search (tests, ← (c .before .before .number-at .ensures))
+returns-3 c =
+    let q = c .before .before in
+    rw (← (q .number-at .ensures), eq-eqb _ 6 (q .before .if1 .left), le-ltb 4095 _ (c .before .if2 .left), lt-ltb 1 _ (c .if3 .taken))
 
 returns-4 : tie.Need-returns-4
 returns-4 c =
@@ -41,14 +45,21 @@ cast-len c = search needs
 
 returns-5 : tie.Need-returns-5
 unfolding dataTests
-returns-5 c = search (tests, ← (c .before .before .before .before .before .number-at .ensures), ← (c .before .number-at2 .ensures))
+returns-5 c =
+    let t = c .before .before .before in
+    let q = t .before .before in
+    rw (← (q .number-at .ensures), ← (c .before .number-at2 .ensures), eq-eqb _ 6 (q .before .if1 .left), le-ltb 4095 _ (t .before .if2 .left), le-ltb 1 _ (t .if3 .left), ne-eqb _ 0 (c .before .before .if4 .left), lt-ltb 64 _ (c .if5 .taken))
 
 add-if6 : tie.Need-add-if6
 add-if6 c = search needs
 
 returns-6 : tie.Need-returns-6
 unfolding dataTests
-returns-6 c = search (tests, ← (c .before .before .before .before .before .before .number-at .ensures), ← (c .before .before .number-at2 .ensures))
+returns-6 c =
+    let l = c .before .before in
+    let t = l .before .before in
+    let q = t .before .before in
+    rw (← (q .number-at .ensures), ← (l .number-at2 .ensures), eq-eqb _ 6 (q .before .if1 .left), le-ltb 4095 _ (t .before .if2 .left), le-ltb 1 _ (t .if3 .left), ne-eqb _ 0 (l .before .if4 .left), le-ltb 64 _ (c .before .if5 .left), ne-eqb _ (18 + l .number-at2 .result) (c .if6 .taken))
 
 returns-7 : tie.Need-returns-7
 returns-7 c =

@@ -1,33 +1,53 @@
--- `skelmarith::packets::skel_read` meets its contract.
+-- `skelmarith::packets::skel_read` meets its contract: a refusal's numbers, or the numbers of the reader's fields.
 -- Assumes nothing.
-use mathlib.Core.Path.{_≡_, _∙_, ap}
-use Prim.Native.Nat.{ℕ}
+use mathlib.Core.Path.{_≡_, _∙_, sym, ap}
 use borrow.Author.Needs.{needs}
-use Rattle.packet.specs.Fields.{octetOf}
+use Rattle.lists.specs.Table.{firstOf}
 use Rattle.answers.specs.Numbers.{numberOf}
-use Rattle.reader.specs.declared.Received.{Received}
-use Rattle.reader.specs.Read.{Reading, readingOf}
+use Rattle.reader.specs.Refusals.{readerTests}
+use Rattle.reader.specs.Read.{Reading}
+use Rattle.reader.proofs.Steps.{answered, read-refused}
 use Rattle.skelmarith.proofs.packets.skel_read.Statement.{statement}
 use Rattle.skelmarith.proofs.packets.skel_read.Tie as tie
 
-read-requires : tie.Need-read-requires
-read-requires c κs = search needs
+answer-requires : tie.Need-answer-requires
+answer-requires c κs = search needs
 
 number-requires : tie.Need-number-requires
 number-requires c κs = search needs
 
+number-requires-2 : tie.Need-number-requires-2
+number-requires-2 c κs = search needs
+
+returns : tie.Need-returns
+returns c =
+    let n = c .before .before in
+    read-refused _ _ (c .number2 .ensures ∙ n .before .answer .ensures) (λ z. c .before .if1 .taken (n .number .ensures ∙ sym (c .number2 .ensures) ∙ z))
+
+-- where the answer is 0 no test passes
+none-passes : (c : tie.Else1) → firstOf (readerTests (c .before .before .before .before .args .packet .now)) ≡ 0
+none-passes c = sym (c .before .before .answer .ensures) ∙ sym (c .before .number .ensures) ∙ c .if1 .left
+
+fields-requires : tie.Need-fields-requires
+fields-requires c κs = none-passes c
+
 octet-requires : tie.Need-octet-requires
 octet-requires c κs = search needs
 
--- the numbers of the answer and of the command
-abbrev numbered : Received → ℕ → ℕ → Reading
-numbered r a c = record { answer = a; command = c; identifier = r .identifier; status = r .status; station = r .station; sequence = r .sequence; start = r .start; len = r .len }
-
-in-numbers : (r : Received) {a c : ℕ} → a ≡ numberOf (r .answer) → c ≡ octetOf (r .command) → numbered r a c ≡ readingOf r
-in-numbers r {a} {c} e f = ap (λ (n : ℕ). numbered r n c) e ∙ ap (numbered r (numberOf (r .answer))) f
-
-returns : tie.Need-returns
-returns c = in-numbers (c .before .before .before .read .result) (c .before .number .ensures) (c .octet .ensures) ∙ c .before .before .before .read .ensures
+returns-2 : tie.Need-returns-2
+returns-2 c =
+    let f = c .before .before in
+    let zero : numberOf (f .fields .result .answer) ≡ 0 = ap (λ (r : Reading). r .answer) (f .fields .ensures) ∙ answered _ ∙ none-passes (f .before) in
+    rw (c .octet .ensures) (rw zero at (f .fields .ensures))
 
 pub skel-read-spec : {M : Type 1} → statement M
-skel-read-spec = tie.close (tie.spec read-requires number-requires octet-requires returns)
+skel-read-spec =
+    tie.close
+    (tie.spec
+    answer-requires
+    number-requires
+    number-requires-2
+    returns
+    fields-requires
+    octet-requires
+    returns-2)

@@ -1,9 +1,9 @@
--- `skelmarith::packets::command_of` meets its contract.
+-- `reader::command_of` meets its contract: the octet is 0, 1 or neither.
 -- Assumes nothing.
 use borrow.Author.Tests.{eq-eqb, ne-eqb}
-use Rattle.skelmarith.specs.Packets.{commandOf}
-use Rattle.skelmarith.proofs.packets.command_of.Statement.{statement}
-use Rattle.skelmarith.proofs.packets.command_of.Tie as tie
+use Rattle.reader.specs.Read.{commandOf}
+use Rattle.reader.proofs.command_of.Statement.{statement}
+use Rattle.reader.proofs.command_of.Tie as tie
 
 returns : tie.Need-returns
 unfolding commandOf
