@@ -1,5 +1,6 @@
 // One access point's record as a whole: whether 14 applies to it, a tick, and the call for outside bytes.
 use answers::Answer;
+use excerpt::Excerpt;
 use packet::Command;
 use packet::Packet;
 use reader::Received;
@@ -17,6 +18,7 @@ ghost use Rattle.writer.specs.Write.{writingOf, writeTo};
 ghost use Rattle.machine.specs.Packets.{packetOf};
 ghost use Rattle.machine.specs.Valid.{validSetup};
 ghost use Rattle.record.specs.Valid.{validRecord, validLoneRecord, Usable};
+ghost use Rattle.excerpt.specs.Excerpts.{Allowed, putBack};
 ghost use Rattle.access_point.specs.Tick.{tickDone};
 ghost use Rattle.access_point.specs.Outside.{withRecord, replyFields, outsideOf, answerDone, outsideDone};
 
@@ -29,8 +31,8 @@ pub struct Ticking {
 
 // What outside bytes lead to: the answer, the record and the length written.
 pub struct Answered {
-    pub answer: Answer,
     pub lone: LoneAccessPoint,
+    pub answer: Answer,
     pub len: usize,
 }
 
@@ -106,15 +108,16 @@ fn refused(l: LoneAccessPoint, answer: Answer) -> Answered
     }
 }
 
-// Accepted: the record with the AP's own record replaced, and the length written.
-fn accepted(l: LoneAccessPoint, point: AccessPoint, len: usize) -> Answered
-    ensures { λ r. ⌜ r ≡ record { answer = Accepted; lone = withRecord point l; len = len } ⌝ }
+// Accepted: the excerpt is put back into the AP's own record, and the length written is told.
+fn accepted(mut l: LoneAccessPoint, x: Excerpt, len: usize) -> Answered
+    requires { ⌜ (l .point .associations .count ≤ 16) × Allowed (x .edit) (x .at) (l .point .associations .count) ⌝ }
+    ensures { λ r. ⌜ r ≡ record { answer = Accepted; lone = withRecord (putBack (l .point) x) l; len = len } ⌝ }
 {
-    let mut next = l;
-    next.point = point;
+    let point = excerpt::put_back(l.point, x);
+    l.point = point;
     Answered {
         answer: Answer::Accepted,
-        lone: next,
+        lone: l,
         len,
     }
 }
@@ -158,19 +161,20 @@ fn answer_packet(
     requires { ⌜ (Usable (l .point)) × (length (now context) ≤ 64) × (r .sequence ≤ 4095) ⌝ }
     ensures { λ x. ⌜ outsideOf x (now (buffer .exit)) ≡ answerDone l from (packetOf (readingOf r) (now (context .entry))) (now (buffer .entry)) ⌝ }
 {
-    let a = l.point;
-    let h = receiving::receive(a, from, r, context);
-    let point = h.point;
+    let station = r.station;
+    let x = excerpt::of(l.point, station);
+    let h = receiving::receive(x, from, r, context);
+    let after = h.after;
     let reply = h.reply;
     if !reply.sent {
-        return accepted(l, point, 0);
+        return accepted(l, after, 0);
     }
     let w = write_reply(r, reply, buffer);
     let answer = w.answer;
     if answers::number(answer) != 0 {
         return refused(l, answer);
     }
-    accepted(l, point, w.len)
+    accepted(l, after, w.len)
 }
 
 // Outside bytes at an AP alone, from the AP `from`: 14, then 11, the reader's 1 to 9, and 10 for a buffer too short for the answer.

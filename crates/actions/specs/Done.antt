@@ -18,7 +18,9 @@ use Rattle.record.specs.declared.AccessPoint.{AccessPoint}
 use Rattle.record.specs.Lens.{getPoint, putPoint}
 use Rattle.in_flight.specs.declared.Outbox.{Outbox}
 use Rattle.in_flight.specs.Post.{outboxOf}
+use Rattle.excerpt.specs.Excerpts.{putBack}
 use Rattle.actions.specs.declared.Action.{Action}
+use Rattle.actions.specs.declared.Joining.{Joining}
 
 -- the answer, the record afterwards, the packets sent and how many moves were given up
 pub record Done : Type 0 where
@@ -29,6 +31,10 @@ pub record Done : Type 0 where
 
 abbrev pub doneOf : Action → Done
 doneOf x = record { answer = numberOf (x .answer); point = x .point; sent = x .sent; «given_up» = x .«given_up» }
+
+-- a join, put back into the record a
+abbrev pub joiningOf : AccessPoint → Joining → Done
+joiningOf a x = record { answer = numberOf (x .answer); point = putBack a (x .after); sent = x .sent; «given_up» = 0 }
 
 -- the record a as it came, and the answer n
 abbrev pub unchangedBy : ℕ → AccessPoint → Done

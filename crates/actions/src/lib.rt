@@ -1,13 +1,14 @@
 // What an access point does at an event: its answer, its record afterwards, and its packets, written and in order of sending.
 use answers::Answer;
 use elements::InFlight;
+use excerpt::Excerpt;
 use in_flight::Outbox;
 use joining::Notice;
 use joining::Old;
 use record::AccessPoint;
 ghost use mathlib.Core.Path.{_≡_};
 ghost use mathlib.Core.Bool.{true};
-ghost use mathlib.Core.List.{map};
+ghost use mathlib.Core.List.{[], map};
 ghost use Prim.Native.Nat.{_≤_, _<_};
 ghost use Rattle.answers.specs.Numbers.{numberOf};
 ghost use Rattle.machine.specs.Stations.{isGroup};
@@ -17,13 +18,14 @@ ghost use Rattle.record.specs.Lens.{getMoves};
 ghost use Rattle.record.specs.Valid.{Usable};
 ghost use Rattle.sending.specs.Sends.{sequenceWithin};
 ghost use Rattle.in_flight.specs.Post.{outboxOf};
+ghost use Rattle.excerpt.specs.Excerpts.{putBack, Allowed, Seen};
 ghost use Rattle.joining.specs.Join.{oldOf, sendsBy};
-ghost use Rattle.actions.specs.Done.{doneOf, unchangedBy, joinOf, leaveOf, tickOf, receiveOf, loseOf};
+ghost use Rattle.actions.specs.Done.{doneOf, joiningOf, unchangedBy, joinOf, leaveOf, tickOf, receiveOf, loseOf};
 
 pub struct Action {
-    pub answer: Answer,
     pub point: AccessPoint,
     pub sent: Outbox,
+    pub answer: Answer,
     pub given_up: u8,
 }
 
@@ -63,7 +65,75 @@ fn notice_sent(own: u8, ap_count: u8, station: [u8; 6], sequence: u16, notice: N
     }
 }
 
-// A station joins AP `at` of ap_count: 11, 13, 7, 9, then the AP's own 15, 16, 17.
+// What a join does, on an excerpt of the AP's record for the station.
+pub struct Joining {
+    pub answer: Answer,
+    pub after: Excerpt,
+    pub sent: Outbox,
+}
+
+fn refused(x: Excerpt, answer: Answer) -> Joining
+    ensures { λ r. ⌜ ((a : AccessPoint) → joiningOf a r ≡ record { answer = numberOf answer; point = putBack a x; sent = outboxOf []; «given_up» = 0 }) ⌝ }
+    ensures { λ r. ⌜ r .after ≡ x ⌝ }
+{
+    Joining {
+        answer,
+        after: x,
+        sent: sending::nothing(),
+    }
+}
+
+// A station joins AP `at` of ap_count: 11, 13, 7, 9, then the AP's own 15, 16, 17. Put back into the record that x is of, it is the machine's.
+pub fn join_excerpt(
+    x: Excerpt,
+    at: u16,
+    ap_count: u8,
+    timeout: u16,
+    resend_limit: u8,
+    station: [u8; 6],
+    sequence: u16,
+    old: Old,
+    context: &[u8],
+) -> Joining
+    requires { ⌜ «ap_count» ≤ 8 ⌝ }
+    ensures { λ r. ⌜ ((a : AccessPoint) → Seen station a x → joiningOf a r ≡ joinOf at «ap_count» timeout «resend_limit» station sequence (oldOf old) (now (context .entry)) a) ⌝ }
+    ensures { λ r. ⌜ ((a : AccessPoint) → Seen station a x → Allowed (r .after .edit) (r .after .at) (a .associations .count)) ⌝ }
+{
+    if ap_count as u16 <= at {
+        return refused(x, Answer::UnknownAccessPoint);
+    }
+    if is_group(station) {
+        return refused(x, Answer::GroupAddress);
+    }
+    if 4095 < sequence {
+        return refused(x, Answer::SequenceOutOfRange);
+    }
+    if 64 < context.len() {
+        return refused(x, Answer::WrongContext);
+    }
+    let own = at as u8;
+    let j = joining::join(
+        x,
+        own,
+        ap_count,
+        timeout,
+        resend_limit,
+        station,
+        sequence,
+        old,
+        context,
+    );
+    let answer = j.answer;
+    let after = j.after;
+    let notice = j.notice;
+    Joining {
+        answer,
+        after,
+        sent: notice_sent(own, ap_count, station, sequence, notice),
+    }
+}
+
+// The same at the AP's whole record.
 pub fn join(
     a: AccessPoint,
     at: u16,
@@ -79,22 +149,10 @@ pub fn join(
     requires { ⌜ «ap_count» ≤ 8 ⌝ }
     ensures { λ r. ⌜ doneOf r ≡ joinOf at «ap_count» timeout «resend_limit» station sequence (oldOf old) (now (context .entry)) a ⌝ }
 {
-    if ap_count as u16 <= at {
-        return unchanged(a, Answer::UnknownAccessPoint);
-    }
-    if is_group(station) {
-        return unchanged(a, Answer::GroupAddress);
-    }
-    if 4095 < sequence {
-        return unchanged(a, Answer::SequenceOutOfRange);
-    }
-    if 64 < context.len() {
-        return unchanged(a, Answer::WrongContext);
-    }
-    let own = at as u8;
-    let j = joining::join(
-        a,
-        own,
+    let x = excerpt::of(a, station);
+    let j = join_excerpt(
+        x,
+        at,
         ap_count,
         timeout,
         resend_limit,
@@ -104,12 +162,12 @@ pub fn join(
         context,
     );
     let answer = j.answer;
-    let point = j.point;
-    let notice = j.notice;
+    let after = j.after;
+    let sent = j.sent;
     Action {
         answer,
-        point,
-        sent: notice_sent(own, ap_count, station, sequence, notice),
+        point: excerpt::put_back(a, after),
+        sent,
         given_up: 0,
     }
 }
@@ -125,7 +183,9 @@ pub fn leave(a: AccessPoint, at: u16, ap_count: u8, station: [u8; 6]) -> Action
     if is_group(station) {
         return unchanged(a, Answer::GroupAddress);
     }
-    let b = receiving::leave(a, station);
+    let x = excerpt::of(a, station);
+    let y = receiving::leave(x);
+    let b = excerpt::put_back(a, y);
     unchanged(b, Answer::Accepted)
 }
 
@@ -163,8 +223,11 @@ pub fn receive(a: AccessPoint, p: InFlight, at: u16, count: usize) -> Action
     let r = reader::read(&octets[..n]);
     let start = r.start;
     let end = start + r.len;
-    let h = receiving::receive(a, p.from, r, &octets[start..end]);
-    let point = h.point;
+    let station = r.station;
+    let x = excerpt::of(a, station);
+    let h = receiving::receive(x, p.from, r, &octets[start..end]);
+    let y = h.after;
+    let point = excerpt::put_back(a, y);
     let reply = h.reply;
     if !reply.sent {
         return unchanged(point, Answer::Accepted);

@@ -26,8 +26,10 @@ use Rattle.in_flight.specs.declared.Outbox.{Outbox}
 use Rattle.in_flight.specs.Post.{getOutbox, outboxOf}
 use Rattle.in_flight.proofs.Posted.{outbox-got}
 use Rattle.actions.specs.declared.Action.{Action}
-use Rattle.actions.specs.Done.{Done, doneOf, doneBy, decided}
+use Rattle.actions.specs.declared.Joining.{Joining}
+use Rattle.actions.specs.Done.{Done, doneOf, joiningOf, doneBy, decided}
 use Rattle.actions.proofs.Action as A
+use Rattle.actions.proofs.Joining as J
 use Rattle.alone.specs.Front.{Sized, Packed}
 
 -- 82 octets
@@ -43,36 +45,41 @@ carried-sized b (x ∷ xs) (cons h hs) =
     let l : length w ≤ 82 = omega (arith, h, length-append w (replicate (82 - length w) 0)) in
     cons (record { used = l; slots = h }) (carried-sized b xs hs)
 
-module _ (x : Action) (vs : List Val) (g : Is (row A.the-type) x vs) where
-  outbox-slots : length (x .sent .items) ≡ 8
-  outbox-slots = simp length-map at (g .1 .1 .1 .1 .0 .1 .1 .0 .1 .0 .1)
-
-  packet-slots : All Slots (x .sent .items)
-  packet-slots =
-      let a = g .1 .1 .1 .1 .0 .1 .1 .0 in
-      each-all _ _ (F.the-type .to) (x .sent .items) (a .0) (λ p u h. simp length-map at (h .1 .1 .1 .1 .1 .0 .1 .0 .1)) (a .1 .1)
-
+-- an outbox with its eight slots, each of 82 octets
+module _ (o : Outbox) (n : length (o .items) ≡ 8) (ss : All Slots (o .items)) where
   -- eight packets at most, of 82 octets at most
-  pub packed : (b : ℕ) (ys : List Outgoing) → x .sent ≡ outboxOf (map (carried b) ys) → Packed (x .sent)
+  packed : (b : ℕ) (ys : List Outgoing) → o ≡ outboxOf (map (carried b) ys) → Packed o
   unfolding outboxOf
   packed b ys e =
       let ps : List InFlight = map (carried b) ys in
-      let i : x .sent .items ≡ ps ++ replicate (8 - length ps) noInFlight = ap (λ (o : Outbox). o .items) e ∙ over-new noInFlight 8 ps in
-      let n : length (x .sent .items) ≡ length (ps ++ replicate (8 - length ps) noInFlight) = ap length i in
-      let c : x .sent .count ≡ length ps = ap (λ (o : Outbox). o .count) e in
-      let t : take (length ps) (x .sent .items) ≡ ps = ap (λ (l : List InFlight). take (length ps) l) i ∙ take-append-seam ps (replicate (8 - length ps) noInFlight) in
-      let got : getOutbox (x .sent) ≡ ps = ap getOutbox e ∙ outbox-got ps in
+      let i : o .items ≡ ps ++ replicate (8 - length ps) noInFlight = ap (λ (o : Outbox). o .items) e ∙ over-new noInFlight 8 ps in
+      let m : length (o .items) ≡ length (ps ++ replicate (8 - length ps) noInFlight) = ap length i in
+      let c : o .count ≡ length ps = ap (λ (o : Outbox). o .count) e in
+      let t : take (length ps) (o .items) ≡ ps = ap (λ (l : List InFlight). take (length ps) l) i ∙ take-append-seam ps (replicate (8 - length ps) noInFlight) in
+      let got : getOutbox o ≡ ps = ap getOutbox e ∙ outbox-got ps in
       record {
-        count = omega (arith, outbox-slots, n, c, length-append ps (replicate (8 - length ps) noInFlight));
-        slots = outbox-slots;
-        sizes = subst (All Sized) (sym got) (carried-sized b ys (subst (All Slots) t (all-take (length ps) packet-slots)));
+        count = omega (arith, n, m, c, length-append ps (replicate (8 - length ps) noInFlight));
+        slots = n;
+        sizes = subst (All Sized) (sym got) (carried-sized b ys (subst (All Slots) t (all-take (length ps) ss)));
       }
 
   -- the same of what is decided by tests
-  pub packed-by : (ts : List Test) (b : ℕ) (a : AccessPoint) (y : machine.Action) → doneOf x ≡ decided ts b a y → Packed (x .sent)
+  packed-by : (ts : List Test) (b : ℕ) (a : AccessPoint) (y : machine.Action) → o ≡ decided ts b a y .sent → Packed o
   unfolding decided doneBy
   packed-by ts b a y e =
-      by-cond (λ (d : Done). x .sent ≡ d .sent → Packed (x .sent)) (accepts (firstOf ts))
+      by-cond (λ (d : Done). o ≡ d .sent → Packed o) (accepts (firstOf ts))
       (λ q. packed b (y .sends))
       (λ q. packed b [])
-      (ap (λ (d : Done). d .sent) e)
+      e
+
+-- what an action sends, and what a join sends
+
+pub action-packed : (x : Action) (vs : List Val) → Is (row A.the-type) x vs → (ts : List Test) (b : ℕ) (a : AccessPoint) (y : machine.Action) → doneOf x ≡ decided ts b a y → Packed (x .sent)
+action-packed x vs g ts b a y e =
+    let p = g .1 .1 .1 .0 .1 .1 .0 in
+    packed-by (x .sent) (simp length-map at (p .1 .0 .1)) (each-all _ _ (F.the-type .to) (x .sent .items) (p .0) (λ p u h. simp length-map at (h .1 .1 .1 .1 .1 .0 .1 .0 .1)) (p .1 .1)) ts b a y (ap (λ (d : Done). d .sent) e)
+
+pub join-packed : (x : Joining) (vs : List Val) → Is (row J.the-type) x vs → (ts : List Test) (b : ℕ) (a : AccessPoint) (y : machine.Action) → joiningOf a x ≡ decided ts b a y → Packed (x .sent)
+join-packed x vs g ts b a y e =
+    let p = g .1 .1 .1 .1 .0 .1 .1 .0 in
+    packed-by (x .sent) (simp length-map at (p .1 .0 .1)) (each-all _ _ (F.the-type .to) (x .sent .items) (p .0) (λ p u h. simp length-map at (h .1 .1 .1 .1 .1 .0 .1 .0 .1)) (p .1 .1)) ts b a y (ap (λ (d : Done). d .sent) e)

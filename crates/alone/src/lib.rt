@@ -207,8 +207,9 @@ pub fn join(
         };
     }
     let a = lone.point;
-    let j = actions::join(
-        a,
+    let x = excerpt::of(a, *station);
+    let j = actions::join_excerpt(
+        x,
         lone.number as u16,
         lone.ap_count,
         lone.timeout,
@@ -220,9 +221,10 @@ pub fn join(
     );
     let answer = j.answer;
     let sent = j.sent;
-    let reply = post(buffer, answer, sent, j.given_up);
+    let reply = post(buffer, answer, sent, 0);
     if reply.answer == 0 {
-        let point = j.point;
+        let after = j.after;
+        let point = excerpt::put_back(a, after);
         lone.point = point;
     }
     Outcome { lone, reply }
@@ -244,8 +246,9 @@ pub fn leave(mut lone: LoneAccessPoint, station: &[u8; 6]) -> Outcome
             reply: reply_with(Answer::GroupAddress),
         };
     }
-    let point = lone.point;
-    let left = receiving::leave(point, *station);
+    let x = excerpt::of(lone.point, *station);
+    let y = receiving::leave(x);
+    let left = excerpt::put_back(lone.point, y);
     lone.point = left;
     Outcome {
         lone,

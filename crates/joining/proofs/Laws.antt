@@ -19,16 +19,21 @@ use Rattle.elements.specs.declared.Association.{Association}
 use Rattle.elements.specs.declared.Move.{Move}
 use Rattle.machine.specs.AccessPoint as machine
 use Rattle.machine.specs.Associations.{Context, given, association, heldContext, associate}
-use Rattle.machine.specs.Moves.{Open, countsAfter, counted, opening, newMove, noticeOf}
+use Rattle.machine.specs.Moves.{Open, countsAfter, counted, newMove, noticeOf}
+use Rattle.machine.specs.Moves as happenings
 use Rattle.machine.specs.AccessPoint.{withAssociations, withMoves, useIdentifier, quietly, another, this, nowhere, originOf, needsMove, joinTests, joined, joinFrom}
 use Rattle.record.specs.declared.Associations.{Associations}
 use Rattle.record.specs.declared.Moves.{Moves}
 use Rattle.record.specs.declared.AccessPoint.{AccessPoint}
 use Rattle.record.specs.Lens.{getAssociations, putAssociations, getMoves, putMoves, named, bare, getPoint, putPoint}
-use Rattle.record.proofs.LensLaws.{Fits, moves-length, put-parts, put-associations, moves-as-got}
+use Rattle.record.proofs.LensLaws.{associations-length, moves-length, put-parts, moves-as-got}
 use Rattle.record.specs.Slots.{noAssociation}
 use Rattle.associations.specs.Rows.{isOf}
 use Rattle.associations.proofs.Laws.{associate-at, context-at, station-at, sequence-at}
+use Rattle.excerpt.specs.declared.Edit.the-variants.{Place}
+use Rattle.excerpt.specs.declared.Excerpt.{Excerpt}
+use Rattle.excerpt.specs.Excerpts.{withEdit, putBack, Seen}
+use Rattle.excerpt.proofs.Laws.{fits, at-is, moves-is, identifier-is}
 use Rattle.joining.specs.declared.Origin.{Origin}
 use Rattle.joining.specs.declared.Origin.the-variants.{Another, This, Nowhere}
 use Rattle.joining.specs.declared.Notice.{Notice}
@@ -37,23 +42,22 @@ use Rattle.joining.specs.Join.{sendsBy, noticeFrom, originFrom, joinDone
 
 -- the tests, one after the other
 
-pub not-newer : (rs : List Association) (i n m : ℕ) (moving : Bool) (q : ℕ) → i < length rs → q ≡ getD rs i noAssociation .sequence
-    → newerOf n q ≡ false → 15 ≡ firstOf (testsAt rs i n m moving)
-unfolding testsAt
-not-newer rs i n m moving q h e f = rw (lt-ltb i (length rs) h, ← e, f)
+module _ (i k q n m : ℕ) (moving : Bool) where
+  pub not-newer : i < k → newerOf n q ≡ false → 15 ≡ firstOf (testsAt i k q n m moving)
+  unfolding testsAt
+  not-newer h f = rw (lt-ltb i k h, f)
 
-pub newer-passes : (rs : List Association) (i n m : ℕ) (moving : Bool) (q : ℕ) → i < length rs → q ≡ getD rs i noAssociation .sequence
-    → newerOf n q ≡ true → firstOf (movesTests m moving) ≡ firstOf (testsAt rs i n m moving)
-unfolding testsAt
-newer-passes rs i n m moving q h e f = rw (lt-ltb i (length rs) h, ← e, f)
+  pub newer-passes : i < k → newerOf n q ≡ true → firstOf (movesTests m moving) ≡ firstOf (testsAt i k q n m moving)
+  unfolding testsAt
+  newer-passes h f = rw (lt-ltb i k h, f)
 
-pub table-full : (rs : List Association) (i n m : ℕ) (moving : Bool) → length rs ≤ i → 16 ≤ length rs → 16 ≡ firstOf (testsAt rs i n m moving)
-unfolding testsAt
-table-full rs i n m moving h k = rw (le-ltb i (length rs) h, le-leb 16 (length rs) k)
+  pub table-full : k ≤ i → 16 ≤ k → 16 ≡ firstOf (testsAt i k q n m moving)
+  unfolding testsAt
+  table-full h l = rw (le-ltb i k h, le-leb 16 k l)
 
-pub table-room : (rs : List Association) (i n m : ℕ) (moving : Bool) → length rs ≤ i → length rs < 16 → firstOf (movesTests m moving) ≡ firstOf (testsAt rs i n m moving)
-unfolding testsAt
-table-room rs i n m moving h k = rw (le-ltb i (length rs) h, lt-leb 16 (length rs) k)
+  pub table-room : k ≤ i → k < 16 → firstOf (movesTests m moving) ≡ firstOf (testsAt i k q n m moving)
+  unfolding testsAt
+  table-room h l = rw (le-ltb i k h, lt-leb 16 k l)
 
 -- where the old AP is
 
@@ -100,33 +104,55 @@ unfolding bare named
 bare-last [] m = refl
 bare-last (x ∷ xs) m = ap (λ (l : List Move). x ∷ l) (bare-last xs m)
 
-module _ (a : AccessPoint) (z : Fits a) (s : List ℕ) (n : ℕ) (t : Associations) where
-  -- the table after a join with the context x
-  abbrev Table : Context → Type 0
-  Table x = t ≡ putAssociations (a .associations) (associate (association s n x) (getAssociations (a .associations)))
+-- the excerpt x with the moves ms, the next identifier i, and o moves opened
+abbrev pub opening : Excerpt → Moves → ℕ → ℕ → Excerpt
+opening x ms i o =
+    record { edit = x .edit; at = x .at; count = x .count; row = x .row; moves = ms; «next_identifier» = i; opened = o; resent = x .resent; answered = x .answered; «given_up» = x .«given_up» }
 
-  pub joined-this : Table (heldContext s (getAssociations (a .associations)))
-      → record { associations = t; moves = a .moves; «next_identifier» = a .«next_identifier»; opened = a .opened; resent = a .resent; answered = a .answered; «given_up» = a .«given_up» }
-      ≡ putPoint a (joinFrom this 0 0 0 0 0 s n [] (getPoint a) .point)
-  unfolding joinFrom quietly joined getPoint
-  joined-this e = put-associations a _ t z e
+module _ (s : List ℕ) (n : ℕ) (a : AccessPoint) (x : Excerpt) (w : Seen s a x) where
+  -- put back, it is the access point p, which has that association, those moves and those numbers
+  joined-as : (p : machine.AccessPoint) (y : Context) (r : Association) (ms : Moves) (i o : ℕ) → r ≡ association s n y
+      → p .associations ≡ associate (association s n y) (getAssociations (a .associations))
+      → ms ≡ putMoves (a .moves) (map bare (p .moves))
+      → i ≡ p .«next_identifier» → o ≡ p .counts .opened
+      → a .resent ≡ p .counts .resent → a .answered ≡ p .counts .answered → a .«given_up» ≡ p .counts .«given_up»
+      → putBack a (opening (withEdit Place r x) ms i o) ≡ putPoint a p
+  joined-as p y r ms i o f e em en eo er ew eg =
+      put-parts a p (putAssociations (a .associations) (placed (x .at) r (getAssociations (a .associations)))) ms i o (x .resent) (x .answered) (x .«given_up»)
+      (ap (putAssociations (a .associations))
+      (ap (λ (q : Association). placed (x .at) q (getAssociations (a .associations))) f ∙ associated s n (getAssociations (a .associations)) (x .at) y (at-is s a x w) ∙ sym e))
+      em en eo
+      (ap (λ (y : Excerpt). y .resent) (w .same) ∙ er) (ap (λ (y : Excerpt). y .answered) (w .same) ∙ ew) (ap (λ (y : Excerpt). y .«given_up») (w .same) ∙ eg)
 
-  pub joined-nowhere : (c : List ℕ) (i : ℕ) → Table (given c) → i ≡ (a .«next_identifier» + 1) % 2 ^ 16
-      → record { associations = t; moves = a .moves; «next_identifier» = i; opened = a .opened; resent = a .resent; answered = a .answered; «given_up» = a .«given_up» }
-      ≡ putPoint a (joinFrom nowhere 0 0 0 0 0 s n c (getPoint a) .point)
+  -- the moves of the excerpt are the record's
+  abbrev Kept : Association → Type 0
+  Kept r = r ≡ association s n (heldContext s (getAssociations (a .associations)))
+
+  pub joined-this : (r : Association) → Kept r
+      → putBack a (withEdit Place r x) ≡ putPoint a (joinFrom this 0 0 0 0 0 s n [] (getPoint a) .point)
+  unfolding joinFrom quietly joined withAssociations getPoint
+  joined-this r f =
+      joined-as (joinFrom this 0 0 0 0 0 s n [] (getPoint a) .point) (heldContext s (getAssociations (a .associations))) r (x .moves) (x .«next_identifier») (x .opened) f refl
+      (moves-is s a x w ∙ moves-as-got a (fits s a x w)) (identifier-is s a x w) (ap (λ (y : Excerpt). y .opened) (w .same)) refl refl refl
+
+  pub joined-nowhere : (c : List ℕ) (r : Association) (i : ℕ) → r ≡ association s n (given c) → i ≡ (x .«next_identifier» + 1) % 2 ^ 16
+      → putBack a (opening (withEdit Place r x) (x .moves) i (x .opened)) ≡ putPoint a (joinFrom nowhere 0 0 0 0 0 s n c (getPoint a) .point)
   unfolding joinFrom useIdentifier joined withAssociations getPoint
-  joined-nowhere c i e f =
-      put-parts a (joinFrom nowhere 0 0 0 0 0 s n c (getPoint a) .point) t (a .moves) i (a .opened) (a .resent) (a .answered) (a .«given_up») e (moves-as-got a z) f refl refl refl refl
+  joined-nowhere c r i f g =
+      joined-as (joinFrom nowhere 0 0 0 0 0 s n c (getPoint a) .point) (given c) r (x .moves) i (x .opened) f refl
+      (moves-is s a x w ∙ moves-as-got a (fits s a x w)) (g ∙ ap (λ (j : ℕ). (j + 1) % 2 ^ 16) (identifier-is s a x w)) (ap (λ (y : Excerpt). y .opened) (w .same)) refl refl refl
 
-  pub joined-another : (old q r : ℕ) (ms : Moves) (i o : ℕ) → Table (heldContext s (getAssociations (a .associations)))
-      → ms ≡ putMoves (a .moves) (getMoves (a .moves) ++ (record { station = s; sequence = n; old = old; identifier = a .«next_identifier»; «ticks_left» = q; «resends_left» = r } ∷ []))
-      → i ≡ (a .«next_identifier» + 1) % 2 ^ 16 → o ≡ (a .opened + 1) % 2 ^ 32
-      → record { associations = t; moves = ms; «next_identifier» = i; opened = o; resent = a .resent; answered = a .answered; «given_up» = a .«given_up» }
-      ≡ putPoint a (joinFrom (another old) 0 q r 0 0 s n [] (getPoint a) .point)
-  unfolding joinFrom withMoves useIdentifier joined withAssociations getPoint countsAfter counted opening newMove bare
-  joined-another old q r ms i o e f g k =
-      put-parts a (joinFrom (another old) 0 q r 0 0 s n [] (getPoint a) .point) t ms i o (a .resent) (a .answered) (a .«given_up») e
-      (f ∙ ap (putMoves (a .moves)) (sym (bare-last (getMoves (a .moves)) (newMove 0 s n old (a .«next_identifier») q r)))) g k refl refl refl
+  pub joined-another : (old q l : ℕ) (r : Association) (ms : Moves) (i o : ℕ) → Kept r
+      → ms ≡ putMoves (x .moves) (getMoves (x .moves) ++ (record { station = s; sequence = n; old = old; identifier = x .«next_identifier»; «ticks_left» = q; «resends_left» = l } ∷ []))
+      → i ≡ (x .«next_identifier» + 1) % 2 ^ 16 → o ≡ (x .opened + 1) % 2 ^ 32
+      → putBack a (opening (withEdit Place r x) ms i o) ≡ putPoint a (joinFrom (another old) 0 q l 0 0 s n [] (getPoint a) .point)
+  unfolding joinFrom withMoves useIdentifier joined withAssociations getPoint countsAfter counted happenings.opening newMove bare
+  joined-another old q l r ms i o f g h k =
+      joined-as (joinFrom (another old) 0 q l 0 0 s n [] (getPoint a) .point) (heldContext s (getAssociations (a .associations))) r ms i o f refl
+      (g
+      ∙ ap (λ (y : Excerpt). putMoves (y .moves) (getMoves (y .moves) ++ (record { station = s; sequence = n; old = old; identifier = y .«next_identifier»; «ticks_left» = q; «resends_left» = l } ∷ []))) (w .same)
+      ∙ ap (putMoves (a .moves)) (sym (bare-last (getMoves (a .moves)) (newMove 0 s n old (a .«next_identifier») q l))))
+      (h ∙ ap (λ (j : ℕ). (j + 1) % 2 ^ 16) (identifier-is s a x w)) (k ∙ ap (λ (y : Excerpt). (y .opened + 1) % 2 ^ 32) (w .same)) refl refl refl
 
 -- the tests of the machine are those at the station's place
 
@@ -142,13 +168,13 @@ by-option : (b : Bool) (q n : ℕ) (f : Bool) (ts : List Test)
 by-option true q n f ts = refl
 by-option false q n f ts = refl
 
-pub tests-same : (a : AccessPoint) → Fits a → (s : List ℕ) (n i : ℕ) (x : Origin) → i ≡ indexBy (isOf s) (getAssociations (a .associations))
-    → firstOf (testsAt (getAssociations (a .associations)) i n (a .moves .count) (movingFrom x)) ≡ firstOf (joinTests (originFrom x) s n (getPoint a))
+pub tests-same : (s : List ℕ) (a : AccessPoint) (x : Excerpt) → Seen s a x → (n : ℕ) (o : Origin)
+    → firstOf (testsAt (x .at) (x .count) (x .row .sequence) n (x .moves .count) (movingFrom o)) ≡ firstOf (joinTests (originFrom o) s n (getPoint a))
 unfolding testsAt getPoint
-tests-same a z s n i x e =
+tests-same s a x w n o =
     let rs = getAssociations (a .associations) in
-    let m : length (map named (getMoves (a .moves))) ≡ a .moves .count = length-map (getMoves (a .moves)) named ∙ moves-length (a .moves) (z .moves) in
-    rw (e, m, moving-is x, sequence-at s noAssociation rs) (by-option (ltb (indexBy (isOf s) rs) (length rs)) _ n (leb 16 (length rs)) (movesTests (a .moves .count) (needsMove (originFrom x))))
+    let m : length (map named (getMoves (a .moves))) ≡ a .moves .count = length-map (getMoves (a .moves)) named ∙ moves-length (a .moves) (w .moves) in
+    rw (w .same, m, moving-is o, sequence-at s noAssociation rs, associations-length (a .associations) (w .rows)) (by-option (ltb (indexBy (isOf s) rs) (a .associations .count)) _ n (leb 16 (a .associations .count)) (movesTests (a .moves .count) (needsMove (originFrom o))))
 
 -- a join refused, and a join done
 
@@ -194,18 +220,19 @@ and-false-left : (a b : Bool) → a && b ≡ false → b ≡ true → a ≡ fals
 and-false-left true b e h = not-both h e
 and-false-left false b e h = refl
 
-pub place-room : (rs : List Association) (i n m : ℕ) (moving : Bool) → firstOf (testsAt rs i n m moving) ≡ 0 → i ≤ length rs → length rs ≤ 16 → i < 16
-unfolding testsAt
-place-room rs i n m moving e h k =
-    let p = none-pass (testsAt rs i n m moving) tt (rw e) in
-    go (leb 16 (length rs)) refl (p .1 .0)
-  where
-    go : (b : Bool) → leb 16 (length rs) ≡ b → not (ltb i (length rs)) && b ≡ false → i < 16
-    go true q f = let u = ltb-true i (length rs) (not-false _ (and-false-left _ true f refl)) in omega arith
-    go false q f = omega (arith, leb-false 16 (length rs) q)
+module _ (i k q n m : ℕ) where
+  pub place-room : (moving : Bool) → firstOf (testsAt i k q n m moving) ≡ 0 → i ≤ k → k ≤ 16 → i < 16
+  unfolding testsAt
+  place-room moving e h l =
+      let p = none-pass (testsAt i k q n m moving) tt (rw e) in
+      go (leb 16 k) refl (p .1 .0)
+    where
+      go : (b : Bool) → leb 16 k ≡ b → not (ltb i k) && b ≡ false → i < 16
+      go true f g = let u = ltb-true i k (not-false _ (and-false-left _ true g refl)) in omega arith
+      go false f g = omega (arith, leb-false 16 k f)
 
-pub moves-room : (rs : List Association) (i n m : ℕ) → firstOf (testsAt rs i n m true) ≡ 0 → m < 8
-unfolding testsAt
-moves-room rs i n m e =
-    let p = none-pass (testsAt rs i n m true) tt (rw e) in
-    leb-false 8 m (p .1 .1 .0)
+  pub moves-room : firstOf (testsAt i k q n m true) ≡ 0 → m < 8
+  unfolding testsAt
+  moves-room e =
+      let p = none-pass (testsAt i k q n m true) tt (rw e) in
+      leb-false 8 m (p .1 .1 .0)

@@ -1,25 +1,19 @@
 -- A join at one access point's record: what the code's enums mean, and the one definition that the contract cites.
-use Prim.Native.Nat.{ℕ, _<_}
-use mathlib.Core.Path.{_≡_}
+use Prim.Native.Nat.{ℕ}
 use mathlib.Core.Bool.{Bool, true, false, cond, _&&_, not}
 use mathlib.Core.List.{List, [], _∷_}
 use mathlib.Core.Option.{Option, none, some}
 use lib.Dec.{ltb, leb}
-use lib.ListN.{length, getD}
 use Rattle.lists.specs.Table.{Test, firstOf, accepts}
-use Rattle.lists.specs.Search.{indexBy}
 use Rattle.answers.specs.Numbers.{numberOf}
 use Rattle.sequence.specs.Distance.{newerOf}
-use Rattle.elements.specs.declared.Association.{Association}
 use Rattle.machine.specs.Stations.{Station}
 use Rattle.machine.specs.Packets.{Outgoing, addNotify, moveNotify}
 use Rattle.machine.specs.AccessPoint as machine
 use Rattle.machine.specs.AccessPoint.{another, this, nowhere, addNotifies, joinFrom, joinTests}
 use Rattle.record.specs.declared.AccessPoint.{AccessPoint}
-use Rattle.record.specs.Slots.{noAssociation}
-use Rattle.record.specs.Lens.{getAssociations, getPoint, putPoint}
-use Rattle.record.specs.Valid.{Usable}
-use Rattle.associations.specs.Rows.{isOf}
+use Rattle.record.specs.Lens.{getPoint, putPoint}
+use Rattle.excerpt.specs.Excerpts.{putBack}
 use Rattle.joining.specs.declared.Old.{Old}
 use Rattle.joining.specs.declared.Old.the-variants.{Nothing, At}
 use Rattle.joining.specs.declared.Origin.{Origin}
@@ -55,8 +49,9 @@ pub record Done : Type 0 where
   pub point : AccessPoint
   pub notice : Notice
 
-abbrev pub joinedOf : Joined → Done
-joinedOf j = record { answer = numberOf (j .answer); point = j .point; notice = j .notice }
+-- the excerpt put back into the record a
+abbrev pub joinedOf : AccessPoint → Joined → Done
+joinedOf a j = record { answer = numberOf (j .answer); point = putBack a (j .after); notice = j .notice }
 
 -- 15, 16 and 17, then the machine's join, its record put back; refused, the record is as it came. What the notice sends is what the
 -- machine's join sends (`notice-sends` in proofs/Laws.antt).
@@ -66,24 +61,15 @@ joinDone o k t r b s n c a =
     (record { answer = 0; point = putPoint a (joinFrom o k t r 0 b s n c (getPoint a) .point); notice = noticeFrom o (a .«next_identifier») })
     (record { answer = firstOf (joinTests o s n (getPoint a)); point = a; notice = Silent })
 
--- the same three tests, where the station's association is at place i of rs, and i is the length where there is none: m moves are open
+-- the same three tests, where the station's association is at place i of k with the number q, and i is k where there is none: m moves are open
 abbrev pub movesTests : ℕ → Bool → List Test
 movesTests m moving = (moving && leb 8 m, 17) ∷ []
 
-unfoldable pub testsAt : List Association → ℕ → ℕ → ℕ → Bool → List Test
-testsAt rs i n m moving =
-    (ltb i (length rs) && not (newerOf n (getD rs i noAssociation .sequence)), 15)
-    ∷ (not (ltb i (length rs)) && leb 16 (length rs), 16)
-    ∷ movesTests m moving
+unfoldable pub testsAt : ℕ → ℕ → ℕ → ℕ → ℕ → Bool → List Test
+testsAt i k q n m moving = (ltb i k && not (newerOf n q), 15) ∷ (not (ltb i k) && leb 16 k, 16) ∷ movesTests m moving
 
 -- whether a join from this origin needs a move
 abbrev pub movingFrom : Origin → Bool
 movingFrom (Another o) = true
 movingFrom This = false
 movingFrom Nowhere = false
-
--- a usable record with the place i of the station's association, or the first free place
-pub record Here (a : AccessPoint) (s : Station) (i : ℕ) : Type 0 where
-  pub usable : Usable a
-  pub room : i < 16
-  pub place : i ≡ indexBy (isOf s) (getAssociations (a .associations))

@@ -1,21 +1,22 @@
 // A station joins one access point: the AP's own refusals 15, 16 and 17, its record afterwards, and what it sends.
 use answers::Answer;
+use elements::Association;
 use elements::Move;
-use record::AccessPoint;
-use record::Associations;
+use excerpt::Edit;
+use excerpt::Excerpt;
 ghost use mathlib.Core.Path.{_≡_};
 ghost use Prim.Native.Nat.{_≤_, _<_};
 ghost use mathlib.Core.List.{[]};
 ghost use lib.ListN.{length};
 ghost use Rattle.lists.specs.Table.{firstOf};
-ghost use Rattle.lists.specs.Search.{indexBy};
 ghost use Rattle.answers.specs.Numbers.{numberOf};
-ghost use Rattle.associations.specs.Rows.{isOf};
-ghost use Rattle.machine.specs.Associations.{association, heldContext, given, associate};
+ghost use Rattle.machine.specs.Associations.{association, heldContext};
 ghost use Rattle.machine.specs.AccessPoint.{another, this, nowhere, originOf, joinFrom};
-ghost use Rattle.record.specs.Lens.{getAssociations, putAssociations, getPoint, putPoint};
-ghost use Rattle.record.specs.Valid.{Usable};
-ghost use Rattle.joining.specs.Join.{oldOf, originFrom, movingFrom, movesTests, testsAt, joinedOf, joinDone, Here};
+ghost use Rattle.record.specs.declared.AccessPoint.{AccessPoint};
+ghost use Rattle.record.specs.Lens.{getAssociations, getPoint, putPoint};
+ghost use Rattle.excerpt.specs.declared.Edit.the-variants.{Place};
+ghost use Rattle.excerpt.specs.Excerpts.{putBack, Allowed, Seen};
+ghost use Rattle.joining.specs.Join.{oldOf, originFrom, movingFrom, movesTests, testsAt, joinedOf, joinDone};
 
 // The old AP that a join names: none, or any number.
 pub enum Old {
@@ -39,7 +40,7 @@ pub enum Notice {
 
 pub struct Joined {
     pub answer: Answer,
-    pub point: AccessPoint,
+    pub after: Excerpt,
     pub notice: Notice,
 }
 
@@ -82,73 +83,57 @@ fn moves_answer(moves: usize, moving: bool) -> Answer
     Answer::Accepted
 }
 
-// The first of 15, 16 and 17 that applies, where the station's association is at place i, the count where there is none.
-fn answer_at(t: Associations, i: usize, sequence: u16, moves: usize, moving: bool) -> Answer
-    requires { ⌜ (t .count ≤ 16) × (i ≤ t .count) ⌝ }
-    ensures { λ r. ⌜ numberOf r ≡ firstOf (testsAt (getAssociations t) i sequence moves moving) ⌝ }
+// The first of 15, 16 and 17 that applies, where the station's association is at place `at` of `count` with the number `held`, and `at` is
+// the count where there is none.
+fn answer_at(
+    at: usize,
+    count: usize,
+    held: u16,
+    sequence: u16,
+    moves: usize,
+    moving: bool,
+) -> Answer
+    ensures { λ r. ⌜ numberOf r ≡ firstOf (testsAt at count held sequence moves moving) ⌝ }
 {
-    let n = t.count;
-    if i < n {
-        let row = t.items[i];
-        if !sequence::newer(sequence, row.sequence) {
+    if at < count {
+        if !sequence::newer(sequence, held) {
             return Answer::NotNewer;
         }
         return moves_answer(moves, moving);
     }
-    if 16 <= n {
+    if 16 <= count {
         return Answer::TableFull;
     }
     moves_answer(moves, moving)
 }
 
-// The table with the station's association numbered anew and its context kept, or with a new one, last, with no context.
-fn kept_context(t: Associations, i: usize, station: [u8; 6], sequence: u16) -> Associations
-    requires { ⌜ (t .count ≤ 16) × (i < 16) × (i ≡ indexBy (isOf station) (getAssociations t)) ⌝ }
-    ensures { λ r. ⌜ r ≡ putAssociations t (associate (association station sequence (heldContext station (getAssociations t))) (getAssociations t)) ⌝ }
+// The station's association numbered anew with its context kept, or a new one with no context.
+fn kept_context(x: Excerpt, station: [u8; 6], sequence: u16) -> Association
+    ensures { λ r. ⌜ ((a : AccessPoint) → Seen station a x → r ≡ association station sequence (heldContext station (getAssociations (a .associations)))) ⌝ }
 {
-    let n = t.count;
-    if i < n {
-        let row = t.items[i];
-        let next = associations::renumbered(row, sequence);
-        return associations::place(t, i, next);
+    if x.at < x.count {
+        let row = x.row;
+        return associations::renumbered(row, sequence);
     }
     let none = [0u8; 1];
-    let next = associations::new_association(station, sequence, &none[..0]);
-    associations::place(t, i, next)
+    associations::new_association(station, sequence, &none[..0])
 }
 
-// The table with the station's association numbered anew, or a new one last, with the context given.
-fn given_context(
-    t: Associations,
-    i: usize,
-    station: [u8; 6],
-    sequence: u16,
-    context: &[u8],
-) -> Associations
-    requires { ⌜ (t .count ≤ 16) × (i < 16) × (i ≡ indexBy (isOf station) (getAssociations t)) × (length (now context) ≤ 64) ⌝ }
-    ensures { λ r. ⌜ r ≡ putAssociations t (associate (association station sequence (given (now (context .entry)))) (getAssociations t)) ⌝ }
-{
-    let next = associations::new_association(station, sequence, context);
-    associations::place(t, i, next)
-}
-
-// The record after a join from another AP: a move opens with the next identifier.
+// A join from another AP: a move opens with the next identifier.
 fn from_another(
-    a: AccessPoint,
-    i: usize,
+    x: Excerpt,
     station: [u8; 6],
     sequence: u16,
     old: u8,
     timeout: u16,
     resend_limit: u8,
-) -> AccessPoint
-    requires { ⌜ Here a station i ⌝ }
-    requires { ⌜ a .moves .count < 8 ⌝ }
-    ensures { λ r. ⌜ r ≡ putPoint a (joinFrom (another old) 0 timeout «resend_limit» 0 0 station sequence [] (getPoint a) .point) ⌝ }
+) -> Excerpt
+    requires { ⌜ x .moves .count < 8 ⌝ }
+    ensures { λ r. ⌜ ((a : AccessPoint) → Seen station a x → putBack a r ≡ putPoint a (joinFrom (another old) 0 timeout «resend_limit» 0 0 station sequence [] (getPoint a) .point)) ⌝ }
+    ensures { λ r. ⌜ (r .edit ≡ Place) × (r .at ≡ x .at) ⌝ }
 {
-    let t = a.associations;
-    let table = kept_context(t, i, station, sequence);
-    let identifier = a.next_identifier;
+    let row = kept_context(x, station, sequence);
+    let identifier = x.next_identifier;
     let m = Move {
         station,
         sequence,
@@ -157,54 +142,40 @@ fn from_another(
         ticks_left: timeout,
         resends_left: resend_limit,
     };
-    let open = a.moves;
+    let open = x.moves;
     let moves = moves::push(open, m);
-    AccessPoint {
-        associations: table,
-        moves,
-        next_identifier: std::num::wrapping_add_u16(identifier, 1),
-        opened: std::num::wrapping_add_u32(a.opened, 1),
-        resent: a.resent,
-        answered: a.answered,
-        given_up: a.given_up,
-    }
+    let mut y = excerpt::with_edit(x, Edit::Place, row);
+    y.moves = moves;
+    y.next_identifier = std::num::wrapping_add_u16(identifier, 1);
+    y.opened = std::num::wrapping_add_u32(x.opened, 1);
+    y
 }
 
-// The record after a join from this AP.
-fn from_this(a: AccessPoint, i: usize, station: [u8; 6], sequence: u16) -> AccessPoint
-    requires { ⌜ Here a station i ⌝ }
-    ensures { λ r. ⌜ r ≡ putPoint a (joinFrom this 0 0 0 0 0 station sequence [] (getPoint a) .point) ⌝ }
+// A join from this AP.
+fn from_this(x: Excerpt, station: [u8; 6], sequence: u16) -> Excerpt
+    ensures { λ r. ⌜ ((a : AccessPoint) → Seen station a x → putBack a r ≡ putPoint a (joinFrom this 0 0 0 0 0 station sequence [] (getPoint a) .point)) ⌝ }
+    ensures { λ r. ⌜ (r .edit ≡ Place) × (r .at ≡ x .at) ⌝ }
 {
-    let t = a.associations;
-    let table = kept_context(t, i, station, sequence);
-    let mut b = a;
-    b.associations = table;
-    b
+    let row = kept_context(x, station, sequence);
+    excerpt::with_edit(x, Edit::Place, row)
 }
 
-// The record after a join from nowhere on the floor: the next identifier is used.
-fn from_nowhere(
-    a: AccessPoint,
-    i: usize,
-    station: [u8; 6],
-    sequence: u16,
-    context: &[u8],
-) -> AccessPoint
-    requires { ⌜ Here a station i ⌝ }
+// A join from nowhere on the floor: the context given is taken, and the next identifier is used.
+fn from_nowhere(x: Excerpt, station: [u8; 6], sequence: u16, context: &[u8]) -> Excerpt
     requires { ⌜ length (now context) ≤ 64 ⌝ }
-    ensures { λ r. ⌜ r ≡ putPoint a (joinFrom nowhere 0 0 0 0 0 station sequence (now (context .entry)) (getPoint a) .point) ⌝ }
+    ensures { λ r. ⌜ ((a : AccessPoint) → Seen station a x → putBack a r ≡ putPoint a (joinFrom nowhere 0 0 0 0 0 station sequence (now (context .entry)) (getPoint a) .point)) ⌝ }
+    ensures { λ r. ⌜ (r .edit ≡ Place) × (r .at ≡ x .at) ⌝ }
 {
-    let t = a.associations;
-    let table = given_context(t, i, station, sequence, context);
-    let mut b = a;
-    b.associations = table;
-    b.next_identifier = std::num::wrapping_add_u16(a.next_identifier, 1);
-    b
+    let row = associations::new_association(station, sequence, context);
+    let mut y = excerpt::with_edit(x, Edit::Place, row);
+    y.next_identifier = std::num::wrapping_add_u16(x.next_identifier, 1);
+    y
 }
 
-// A join at AP `own` of a floor of ap_count, with the old AP and the context given.
+// A join at AP `own` of a floor of ap_count, with the old AP and the context given. Put back into the record that x is of, it is the
+// machine's; refused, x is as it came.
 pub fn join(
-    a: AccessPoint,
+    x: Excerpt,
     own: u8,
     ap_count: u8,
     timeout: u16,
@@ -214,37 +185,43 @@ pub fn join(
     old: Old,
     context: &[u8],
 ) -> Joined
-    requires { ⌜ Usable a ⌝ }
     requires { ⌜ length (now context) ≤ 64 ⌝ }
-    ensures { λ r. ⌜ joinedOf r ≡ joinDone (originOf «ap_count» own (oldOf old)) «ap_count» timeout «resend_limit» own station sequence (now (context .entry)) a ⌝ }
+    ensures { λ r. ⌜ ((a : AccessPoint) → Seen station a x → joinedOf a r ≡ joinDone (originOf «ap_count» own (oldOf old)) «ap_count» timeout «resend_limit» own station sequence (now (context .entry)) a) ⌝ }
+    ensures { λ r. ⌜ ((a : AccessPoint) → Seen station a x → Allowed (r .after .edit) (r .after .at) (a .associations .count)) ⌝ }
 {
     let origin = origin_of(old, own, ap_count);
-    let t = a.associations;
-    let i = associations::find(t, station);
-    let m = a.moves;
-    let answer = answer_at(t, i, sequence, m.count, needs_move(origin));
+    let m = x.moves;
+    let row = x.row;
+    let answer = answer_at(
+        x.at,
+        x.count,
+        row.sequence,
+        sequence,
+        m.count,
+        needs_move(origin),
+    );
     if answers::number(answer) != 0 {
         return Joined {
             answer,
-            point: a,
+            after: x,
             notice: Notice::Silent,
         };
     }
-    let identifier = a.next_identifier;
+    let identifier = x.next_identifier;
     match origin {
         Origin::Another(o) => Joined {
             answer,
-            point: from_another(a, i, station, sequence, o, timeout, resend_limit),
+            after: from_another(x, station, sequence, o, timeout, resend_limit),
             notice: Notice::Notify(identifier, o),
         },
         Origin::This => Joined {
             answer,
-            point: from_this(a, i, station, sequence),
+            after: from_this(x, station, sequence),
             notice: Notice::Silent,
         },
         Origin::Nowhere => Joined {
             answer,
-            point: from_nowhere(a, i, station, sequence, context),
+            after: from_nowhere(x, station, sequence, context),
             notice: Notice::Announce(identifier),
         },
     }

@@ -2,16 +2,22 @@
 use crate::records;
 use access_point::Ticking;
 use answers::Answer;
-use joining::Joined;
 use joining::Notice;
 use joining::Old;
 use record::AccessPoint;
 use record::LoneAccessPoint;
 
-fn no_join(a: AccessPoint, answer: Answer) -> Joined {
-    Joined {
-        answer,
+// What a join answers, the record after it, and what it sends.
+pub struct Tried {
+    pub point: AccessPoint,
+    pub answer: Answer,
+    pub notice: Notice,
+}
+
+fn no_join(a: AccessPoint, answer: Answer) -> Tried {
+    Tried {
         point: a,
+        answer,
         notice: Notice::Silent,
     }
 }
@@ -22,7 +28,7 @@ pub fn join(
     sequence: u16,
     old: Old,
     context: &[u8],
-) -> Joined {
+) -> Tried {
     let a = l.point;
     if !access_point::valid(a, l.ap_count) {
         return no_join(a, Answer::InvalidRecord);
@@ -30,8 +36,9 @@ pub fn join(
     if 64 < context.len() {
         return no_join(a, Answer::WrongContext);
     }
-    joining::join(
-        a,
+    let x = excerpt::of(a, station);
+    let j = joining::join(
+        x,
         l.number,
         l.ap_count,
         l.timeout,
@@ -40,7 +47,15 @@ pub fn join(
         sequence,
         old,
         context,
-    )
+    );
+    let answer = j.answer;
+    let after = j.after;
+    let notice = j.notice;
+    Tried {
+        point: excerpt::put_back(a, after),
+        answer,
+        notice,
+    }
 }
 
 // The record after a join of station k.
@@ -62,7 +77,9 @@ pub fn left(l: LoneAccessPoint, k: u8) -> LoneAccessPoint {
     if !access_point::valid(a, l.ap_count) {
         return l;
     }
-    let b = receiving::leave(a, records::station(k));
+    let x = excerpt::of(a, records::station(k));
+    let y = receiving::leave(x);
+    let b = excerpt::put_back(a, y);
     records::with_point(l, b)
 }
 

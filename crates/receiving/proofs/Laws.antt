@@ -1,233 +1,196 @@
--- Laws of what one access point's record does when a station leaves and when a packet is received.
+-- What the rules make of an excerpt, once it is put back into the record a that it is of, for the station s.
 -- Assumes nothing.
-use Prim.Native.Nat.{ℕ, zero, suc, _+_, _%_, _^_, _<_, _≤_}
-use mathlib.Core.Path.{_≡_, refl, sym, ap, _∙_}
+use Prim.Native.Nat.{ℕ, _+_, _%_, _^_, _<_, _≤_}
+use mathlib.Core.Path.{_≡_, sym, ap, subst, _∙_}
 use mathlib.Core.Bool.{Bool, true, false, cond, _&&_}
-use mathlib.Core.List.{List, [], _∷_}
+use mathlib.Core.List.{List}
 use native.Mathlib.Omega.{arith}
-use borrow.Author.Tests.{lt-ltb, le-ltb}
+use borrow.Author.Tests.{lt-ltb, le-ltb, eq-eqb, ne-eqb}
 use lib.Dec.{ltb, eqb}
-use lib.ListN.{length, getD, take}
+use lib.ListN.{length, getD}
 use Rattle.lists.specs.Places.{without}
 use Rattle.lists.specs.Search.{indexBy, placed}
-use Rattle.lists.proofs.Search.{without-past}
-use Rattle.lists.proofs.Choices.{by-option}
 use Rattle.sequence.specs.Distance.{newerOf}
-use Rattle.reader.specs.Read.{Reading}
 use Rattle.elements.specs.declared.Association.{Association}
-use Rattle.machine.specs.Associations.{given, association, contextOctets, dissociate, dissociateOlder, dissociateExactly, fill}
-use Rattle.machine.specs.Packets.{Packet, Message, Outgoing, messageOf, packetOf}
-use Rattle.machine.specs.Moves.{agrees, earliest, answering, countsAfter, counted}
-use Rattle.machine.specs.AccessPoint as machine
-use Rattle.machine.specs.AccessPoint.{Action, withAssociations, withMoves, quietly, leaveBy, answerTo, answeringWith, receiveAdd, receiveNotify, receiveResponse, receiveBy, receive}
-use Rattle.machine.specs.Valid.{distinct}
-use Rattle.record.specs.declared.Associations.{Associations}
+use Rattle.machine.specs.Stations.{Station}
+use Rattle.machine.specs.Associations.{given, association, dissociateOlder}
+use Rattle.machine.specs.Packets.{messageOf}
+use Rattle.machine.specs.Moves.{agrees}
+use Rattle.machine.specs.AccessPoint.{Action, withAssociations, leaveBy, receiveBy}
 use Rattle.record.specs.declared.Moves.{Moves}
 use Rattle.record.specs.declared.AccessPoint.{AccessPoint}
-use Rattle.record.specs.Slots.{noAssociation, noMove}
+use Rattle.record.specs.Slots.{noAssociation}
 use Rattle.record.specs.Lens.{getAssociations, putAssociations, getMoves, putMoves, getPoint, putPoint}
-use Rattle.record.proofs.LensLaws.{Fits, put-parts, point-kept, moves-length}
-use Rattle.associations.specs.Rows.{isOf}
-use Rattle.associations.proofs.Laws.{sequence-at, context-at, dissociate-at, older-at, exactly-at, fill-at}
+use Rattle.record.proofs.LensLaws.{point-kept, put-associations, associations-length}
+use Rattle.record.proofs.ValidLaws.{context-within}
+use Rattle.excerpt.specs.declared.Edit.{Edit}
+use Rattle.excerpt.specs.declared.Edit.the-variants.{Place, Remove}
+use Rattle.excerpt.specs.declared.Excerpt.{Excerpt}
+use Rattle.excerpt.specs.Excerpts.{withEdit, Allowed, edited, putBack, Seen}
+use Rattle.excerpt.proofs.Laws.{fits, at-is, row-is, moves-is, back}
 use Rattle.moves.specs.Asked.{asked}
-use Rattle.moves.proofs.Laws.{askedBy, earliest-asked, close-asked, earliest-at, close-at}
 use Rattle.receiving.specs.declared.Reply.{Reply}
-use Rattle.receiving.specs.declared.Handled.{Handled}
-use Rattle.receiving.specs.Receive.{repliesOf, handledOf, resultOf, handledBy, noReply, emptyReply, notifyReply, replyTo, answeredBy}
+use Rattle.receiving.specs.Receive.{emptyReply, notifyReply, answeredBy}
+use Rattle.receiving.proofs.Rules.{left-none, left-gone, leave-is, older-by, stays-answered, filled-answered, gone-answered, response-is, response-none, response-closes}
 
--- one station's association in the list rs: at place i, which is the length where there is none
+module _ (s : Station) (a : AccessPoint) (x : Excerpt) (q : Seen s a x) where
+  pub none-there : x .count ≤ x .at → length (getAssociations (a .associations)) ≤ x .at
+  none-there h = omega (arith, (ap (λ (y : Excerpt). y .count) (q .same)), associations-length (a .associations) (q .rows))
 
-module _ (s : List ℕ) (n : ℕ) (rs : List Association) (i : ℕ) (e : i ≡ indexBy (isOf s) rs) where
-  -- it is there and its number passes the test t
+  pub one-there : x .at < x .count → x .at < length (getAssociations (a .associations))
+  one-there h = omega (arith, (ap (λ (y : Excerpt). y .count) (q .same)), associations-length (a .associations) (q .rows))
+
+  -- whether it can be put back
+
+  pub removed-allowed : (r : Association) (y : Excerpt) → y ≡ withEdit Remove r x → x .at < x .count → Allowed (y .edit) (y .at) (a .associations .count)
+  removed-allowed r y e h = subst (λ (z : Excerpt). Allowed (z .edit) (z .at) (a .associations .count)) (sym e) (omega (arith, (ap (λ (y : Excerpt). y .count) (q .same))))
+
+  pub placed-allowed : (r : Association) (y : Excerpt) → y ≡ withEdit Place r x → x .at < x .count → Allowed (y .edit) (y .at) (a .associations .count)
+  placed-allowed r y e h =
+      subst (λ (z : Excerpt). Allowed (z .edit) (z .at) (a .associations .count)) (sym e) (omega (arith, (ap (λ (y : Excerpt). y .count) (q .same))), omega (arith, (ap (λ (y : Excerpt). y .count) (q .same)), q .usable .associations))
+
+  -- the record, put back with no edit, without the station's association, or with r in its place
+
+  pub kept-as : (rs : List Association) → getAssociations (a .associations) ≡ rs → putBack a x ≡ putPoint a (withAssociations rs (getPoint a))
+  unfolding withAssociations getPoint
+  kept-as rs e = (back s a x q) ∙ sym (rw (← e) (point-kept a (fits s a x q)))
+
+  edited-as : (e : Edit) (r : Association) (y : Excerpt) (rs : List Association) → y ≡ withEdit e r x
+      → edited e (x .at) r (a .associations) ≡ putAssociations (a .associations) rs → putBack a y ≡ putPoint a (withAssociations rs (getPoint a))
+  edited-as e r y rs f g =
+      ap (putBack a) f
+      ∙ ap (λ (z : Excerpt). record {
+        associations = edited e (x .at) r (a .associations);
+        moves = z .moves;
+        «next_identifier» = z .«next_identifier»;
+        opened = z .opened;
+        resent = z .resent;
+        answered = z .answered;
+        «given_up» = z .«given_up»;
+      }) (q .same)
+      ∙ put-associations a rs (edited e (x .at) r (a .associations)) (fits s a x q) g
+
+  pub removed-as : (r : Association) (y : Excerpt) (rs : List Association) → y ≡ withEdit Remove r x → without (x .at) (getAssociations (a .associations)) ≡ rs
+      → putBack a y ≡ putPoint a (withAssociations rs (getPoint a))
+  removed-as r y rs f g = edited-as Remove r y rs f (ap (putAssociations (a .associations)) g)
+
+  pub placed-as : (r : Association) (y : Excerpt) (rs : List Association) → y ≡ withEdit Place r x → placed (x .at) r (getAssociations (a .associations)) ≡ rs
+      → putBack a y ≡ putPoint a (withAssociations rs (getPoint a))
+  placed-as r y rs f g = edited-as Place r y rs f (ap (putAssociations (a .associations)) g)
+
+  -- leave
+
+  pub leave-none : x .count ≤ x .at → putBack a x ≡ putPoint a (leaveBy s (getPoint a) .point)
+  leave-none h =
+      kept-as _ (left-none s 0 (getAssociations (a .associations)) (x .at) (at-is s a x q) (q .usable .distinct-stations) (none-there h)) ∙ leave-is s a
+
+  pub leave-gone : (y : Excerpt) → y ≡ withEdit Remove (x .row) x → putBack a y ≡ putPoint a (leaveBy s (getPoint a) .point)
+  leave-gone y e =
+      removed-as _ y _ e (left-gone s 0 (getAssociations (a .associations)) (x .at) (at-is s a x q) (q .usable .distinct-stations)) ∙ leave-is s a
+
+  -- the association is there, and whether its number passes a test
+
   abbrev hit : (ℕ → Bool) → Bool
-  hit t = ltb i (length rs) && t (getD rs i noAssociation .sequence)
+  hit t = ltb (x .at) (length (getAssociations (a .associations))) && t (getD (getAssociations (a .associations)) (x .at) noAssociation .sequence)
 
-  pub absent : (t : ℕ → Bool) → length rs ≤ i → hit t ≡ false
-  absent t h = rw (le-ltb i (length rs) h)
+  absent : (t : ℕ → Bool) → x .count ≤ x .at → hit t ≡ false
+  absent t h = rw (le-ltb (x .at) (length (getAssociations (a .associations))) (none-there h))
 
-  pub present : (t : ℕ → Bool) (q : ℕ) (b : Bool) → i < length rs → q ≡ getD rs i noAssociation .sequence → t q ≡ b → hit t ≡ b
-  present t q b h f g = rw (lt-ltb i (length rs) h, ← f) g
+  present : (t : ℕ → Bool) (b : Bool) → x .at < x .count → t (x .row .sequence) ≡ b → hit t ≡ b
+  present t b h g = rw (lt-ltb (x .at) (length (getAssociations (a .associations))) (one-there h), ← (row-is s a x q)) g
 
-  pub left-none : distinct rs ≡ true → length rs ≤ i → rs ≡ dissociate s rs
-  left-none d h = sym (dissociate-at s rs d ∙ without-past (indexBy (isOf s) rs) rs (omega arith))
+  -- a number n, newer than the association's or not
 
-  pub left-gone : distinct rs ≡ true → without i rs ≡ dissociate s rs
-  left-gone d = sym (dissociate-at s rs d ∙ ap (λ (j : ℕ). without j rs) (sym e))
+  module _ (n : ℕ) where
+    abbrev withoutOlder : AccessPoint
+    withoutOlder = putPoint a (withAssociations (dissociateOlder s n (getAssociations (a .associations))) (getPoint a))
 
-  pub older-by : (b : Bool) → distinct rs ≡ true → hit (newerOf n) ≡ b → cond b (without i rs) rs ≡ dissociateOlder s n rs
-  older-by b d h = sym (older-at s n noAssociation rs d ∙ rw (← e, h))
+    older : (b : Bool) → hit (newerOf n) ≡ b → cond b (without (x .at) (getAssociations (a .associations))) (getAssociations (a .associations)) ≡ dissociateOlder s n (getAssociations (a .associations))
+    older b h = older-by s n (getAssociations (a .associations)) (x .at) (at-is s a x q) b (q .usable .distinct-stations) h
 
-  pub answered-miss : (t : ℕ) (c : List ℕ) → distinct rs ≡ true → hit (eqb n) ≡ false → rs ≡ answeredBy t s n c rs
-  unfolding answeredBy
-  answered-miss zero c d h = sym (fill-at s n c noAssociation rs d ∙ rw (← e, h))
-  answered-miss (suc t) c d h = sym (exactly-at s n noAssociation rs d ∙ rw (← e, h))
+    pub older-none : x .count ≤ x .at → putBack a x ≡ withoutOlder
+    older-none h = kept-as _ (older false (absent (newerOf n) h))
 
-  pub answered-filled : (t : ℕ) (c : List ℕ) (r : Association) → t ≡ 0 → distinct rs ≡ true → hit (eqb n) ≡ true → r ≡ getD rs i noAssociation
-      → placed i (association (r .station) (r .sequence) (given c)) rs ≡ answeredBy t s n c rs
-  unfolding answeredBy
-  answered-filled zero c r z d h f = sym (fill-at s n c noAssociation rs d ∙ rw (← e, h, ← f))
-  answered-filled (suc t) c r z d h f = absurd (omega arith)
+    pub older-stays : x .at < x .count → newerOf n (x .row .sequence) ≡ false → putBack a x ≡ withoutOlder
+    older-stays h g = kept-as _ (older false (present (newerOf n) false h g))
 
-  pub answered-gone : (t : ℕ) (c : List ℕ) → (t ≡ 0 → ⊥) → distinct rs ≡ true → hit (eqb n) ≡ true → without i rs ≡ answeredBy t s n c rs
-  unfolding answeredBy
-  answered-gone zero c z d h = absurd (z refl)
-  answered-gone (suc t) c z d h = sym (exactly-at s n noAssociation rs d ∙ rw (← e, h))
+    pub older-gone : (y : Excerpt) → y ≡ withEdit Remove (x .row) x → x .at < x .count → newerOf n (x .row .sequence) ≡ true → putBack a y ≡ withoutOlder
+    older-gone y e h g = removed-as _ y _ e (older true (present (newerOf n) true h g))
 
--- the record with the associations as they were
-pub unchanged : (a : AccessPoint) → Fits a → (rs : List Association) → getAssociations (a .associations) ≡ rs → a ≡ putPoint a (withAssociations rs (getPoint a))
-unfolding withAssociations getPoint
-unchanged a z rs e = sym (rw (← e) (point-kept a z))
+    -- the answer to a MOVE-notify as the code's struct
 
--- leaving and ADD-notify are a change of the associations
-pub leave-is : (s : List ℕ) (a : AccessPoint)
-    → putPoint a (withAssociations (dissociate s (getAssociations (a .associations))) (getPoint a)) ≡ putPoint a (leaveBy s (getPoint a) .point)
-unfolding leaveBy quietly getPoint
-leave-is s a = refl
+    pub reply-none : (y : Reply) → x .count ≤ x .at → y ≡ emptyReply 0 → y ≡ notifyReply s n (getAssociations (a .associations))
+    unfolding notifyReply
+    reply-none y h f = f ∙ sym (rw (← (at-is s a x q), le-ltb (x .at) (length (getAssociations (a .associations))) (none-there h)))
 
-pub add-is : (i : ℕ) (s : List ℕ) (n : ℕ) (a : AccessPoint)
-    → putPoint a (withAssociations (dissociateOlder s n (getAssociations (a .associations))) (getPoint a)) ≡ putPoint a (receiveAdd (asked i s n) (getPoint a) .point)
-unfolding receiveAdd quietly getPoint
-add-is i s n a = refl
+    pub reply-stays : (y : Reply) → x .at < x .count → newerOf n (x .row .sequence) ≡ false → y ≡ emptyReply 1 → y ≡ notifyReply s n (getAssociations (a .associations))
+    unfolding notifyReply
+    reply-stays y h g f = f ∙ sym (rw (← (at-is s a x q), lt-ltb (x .at) (length (getAssociations (a .associations))) (one-there h), ← (row-is s a x q), g))
 
--- MOVE-notify
+    pub reply-gone : x .at < x .count → newerOf n (x .row .sequence) ≡ true
+        → record { sent = true; status = 0; len = x .row .«context_len»; context = x .row .context } ≡ notifyReply s n (getAssociations (a .associations))
+    unfolding notifyReply
+    reply-gone h g = sym (rw (← (at-is s a x q), lt-ltb (x .at) (length (getAssociations (a .associations))) (one-there h), ← (row-is s a x q), g))
 
-module _ (from : ℕ) (p : Packet) (a : AccessPoint) (i : ℕ) (e : i ≡ indexBy (isOf (p .station)) (getAssociations (a .associations))) where
-  pub notify-none : length (getAssociations (a .associations)) ≤ i → answeringWith from p (messageOf 2 0 []) (getPoint a) ≡ receiveNotify from p (getPoint a)
-  unfolding receiveNotify messageOf getPoint
-  notify-none h =
-      let rs = getAssociations (a .associations) in
-      sym (rw (sequence-at (p .station) noAssociation rs, ← e, le-ltb i (length rs) h))
+  pub reply-small : x .at < x .count → x .row .«context_len» ≤ 64
+  reply-small h = rw (row-is s a x q) (context-within (getAssociations (a .associations)) (x .at) noAssociation (q .usable .limits) (one-there h))
 
-  pub notify-stale : (q : ℕ) → i < length (getAssociations (a .associations)) → q ≡ getD (getAssociations (a .associations)) i noAssociation .sequence → newerOf (p .sequence) q ≡ false
-      → answeringWith from p (messageOf 2 1 []) (getPoint a) ≡ receiveNotify from p (getPoint a)
-  unfolding receiveNotify messageOf getPoint
-  notify-stale q h f g =
-      let rs = getAssociations (a .associations) in
-      sym (rw (sequence-at (p .station) noAssociation rs, ← e, lt-ltb i (length rs) h, ← f, g))
+  -- a MOVE-response with number n, status t and context c that closed a move
 
-  pub notify-newer : (r : Association) → i < length (getAssociations (a .associations)) → r ≡ getD (getAssociations (a .associations)) i noAssociation
-      → newerOf (p .sequence) (r .sequence) ≡ true → distinct (getAssociations (a .associations)) ≡ true
-      → answeringWith from p (messageOf 2 0 (take (r .«context_len») (r .context))) (withAssociations (without i (getAssociations (a .associations))) (getPoint a))
-      ≡ receiveNotify from p (getPoint a)
-  unfolding receiveNotify contextOctets messageOf getPoint
-  notify-newer r h f g d =
-      let rs = getAssociations (a .associations) in
-      sym
-      (rw (sequence-at (p .station) noAssociation rs, context-at (p .station) noAssociation rs, dissociate-at (p .station) rs d, ← e, lt-ltb i (length rs) h, ← f, g))
+  module _ (n t : ℕ) (c : List ℕ) where
+    abbrev afterAnswer : AccessPoint
+    afterAnswer = putPoint a (withAssociations (answeredBy t s n c (getAssociations (a .associations))) (getPoint a))
 
--- the answer to a MOVE-notify as the code's struct
+    missed : hit (eqb n) ≡ false → putBack a x ≡ afterAnswer
+    missed h = kept-as _ (stays-answered s n (getAssociations (a .associations)) (x .at) (at-is s a x q) t c (q .usable .distinct-stations) h)
 
-module _ (s : List ℕ) (n : ℕ) (rs : List Association) (i : ℕ) (e : i ≡ indexBy (isOf s) rs) where
-  pub reply-absent : (y : Reply) → length rs ≤ i → y ≡ emptyReply 0 → y ≡ notifyReply s n rs
-  unfolding notifyReply
-  reply-absent y h f = f ∙ sym (rw (← e, le-ltb i (length rs) h))
+    pub answered-none : x .count ≤ x .at → putBack a x ≡ afterAnswer
+    answered-none h = missed (absent (eqb n) h)
 
-  pub reply-stale : (y : Reply) (q : ℕ) → i < length rs → q ≡ getD rs i noAssociation .sequence → newerOf n q ≡ false → y ≡ emptyReply 1 → y ≡ notifyReply s n rs
-  unfolding notifyReply
-  reply-stale y q h f g k = k ∙ sym (rw (← e, lt-ltb i (length rs) h, ← f, g))
+    pub answered-other : x .at < x .count → (n ≡ x .row .sequence → ⊥) → putBack a x ≡ afterAnswer
+    answered-other h g = missed (present (eqb n) false h (ne-eqb _ _ g))
 
-  pub reply-newer : (r : Association) → i < length rs → r ≡ getD rs i noAssociation → newerOf n (r .sequence) ≡ true
-      → record { sent = true; status = 0; len = r .«context_len»; context = r .context } ≡ notifyReply s n rs
-  unfolding notifyReply
-  reply-newer r h f g = sym (rw (← e, lt-ltb i (length rs) h, ← f, g))
+    pub answered-filled : (r : Association) (y : Excerpt) → y ≡ withEdit Place r x → r ≡ association (x .row .station) (x .row .sequence) (given c)
+        → x .at < x .count → n ≡ x .row .sequence → t ≡ 0 → putBack a y ≡ afterAnswer
+    answered-filled r y e f h g z =
+        placed-as r y _ e
+        (ap (λ (k : Association). placed (x .at) k (getAssociations (a .associations))) f
+        ∙ filled-answered s n (getAssociations (a .associations)) (x .at) (at-is s a x q) t c (x .row) z (q .usable .distinct-stations) (present (eqb n) true h (eq-eqb _ _ g)) (row-is s a x q))
 
--- by the command
-module _ (c : ℕ) (s : List ℕ) (n : ℕ) (rs : List Association) where
-  pub reply-by-0 : c ≡ 0 → noReply ≡ replyTo c s n rs
-  unfolding replyTo
-  reply-by-0 e = sym (rw e)
+    pub answered-gone : (y : Excerpt) → y ≡ withEdit Remove (x .row) x → x .at < x .count → n ≡ x .row .sequence → (t ≡ 0 → ⊥) → putBack a y ≡ afterAnswer
+    answered-gone y e h g z =
+        removed-as _ y _ e
+        (gone-answered s n (getAssociations (a .associations)) (x .at) (at-is s a x q) t c z (q .usable .distinct-stations) (present (eqb n) true h (eq-eqb _ _ g)))
 
-  pub reply-by-1 : c ≡ 1 → notifyReply s n rs ≡ replyTo c s n rs
-  unfolding replyTo
-  reply-by-1 e = sym (rw e)
+    -- from the AP `from`, with identifier i: j is the place of the move that it closes
 
-  pub reply-by-2 : c ≡ 2 → noReply ≡ replyTo c s n rs
-  unfolding replyTo
-  reply-by-2 e = sym (rw e)
+    module _ (from i j : ℕ) (e : j ≡ indexBy (agrees from (asked i s n)) (getMoves (x .moves))) where
+      abbrev afterResponse : AccessPoint
+      afterResponse = putPoint a (receiveBy (messageOf 2 t c) from (asked i s n) (getPoint a) .point)
 
--- an answer, and what it sends
+      place-of-move : j ≡ indexBy (agrees from (asked i s n)) (getMoves (a .moves))
+      place-of-move = e ∙ ap (λ (m : Moves). indexBy (agrees from (asked i s n)) (getMoves m)) (moves-is s a x q)
 
-pub reply-sent : (from : ℕ) (p : Packet) (r : Reply) (t : ℕ) → r ≡ emptyReply t → repliesOf from p r ≡ answerTo from p (messageOf 2 t []) ∷ []
-reply-sent from p r t f = rw f
+      pub closes-none : x .moves .count ≤ j → putBack a x ≡ afterResponse
+      closes-none h =
+          (back s a x q)
+          ∙ response-none from (asked i s n) a (fits s a x q) (answeredBy t s n c (getAssociations (a .associations))) j place-of-move (omega (arith, ap (λ (m : Moves). m .count) (moves-is s a x q)))
+          ∙ ap (λ (k : Action). putPoint a (k .point)) (response-is t c from i s n a)
 
-pub none-sent : (r : Reply) → r ≡ noReply → r .sent ≡ false
-none-sent r f = rw f
-
-pub none-small : (r : Reply) → r ≡ noReply → r .len ≤ 64
-none-small r f = rw f (omega arith)
-
-pub empty-small : (r : Reply) (t : ℕ) → r ≡ emptyReply t → r .len ≤ 64
-empty-small r t f = rw f (omega arith)
-
--- the result of an answer
-pub answered-as : (a : AccessPoint) (from : ℕ) (p : Packet) (x : Message) (b : machine.AccessPoint) (g : AccessPoint) (l : List Outgoing)
-    → g ≡ putPoint a b → l ≡ answerTo from p x ∷ [] → record { point = g; sends = l } ≡ resultOf a (answeringWith from p x b)
-unfolding answeringWith
-answered-as a from p x b g l f h = rw (f, h)
-
--- MOVE-response
-
-pub response-is : (t : ℕ) (c : List ℕ) (from i : ℕ) (s : List ℕ) (n : ℕ) (a : AccessPoint)
-    → receiveResponse from (asked i s n) (answeredBy t s n c (getAssociations (a .associations))) (getPoint a) ≡ receiveBy (messageOf 2 t c) from (asked i s n) (getPoint a)
-unfolding receiveBy messageOf answeredBy getPoint
-response-is zero c from i s n a = refl
-response-is (suc t) c from i s n a = refl
-
-module _ (from : ℕ) (p : Packet) (a : AccessPoint) (z : Fits a) (rs : List Association) (j : ℕ) (e : j ≡ indexBy (agrees from p) (getMoves (a .moves))) where
-  pub response-none : a .moves .count ≤ j → a ≡ putPoint a (receiveResponse from p rs (getPoint a) .point)
-  unfolding receiveResponse quietly getPoint
-  response-none h =
-      sym
-      (rw (earliest-at from p (getMoves (a .moves)) noMove, ← e, le-ltb j (length (getMoves (a .moves))) (omega (arith, moves-length (a .moves) (z .moves)))) (point-kept a z))
-
-  pub response-closes : j < a .moves .count → (t : Associations) (ms : Moves) (w : ℕ) → t ≡ putAssociations (a .associations) rs → ms ≡ putMoves (a .moves) (without j (getMoves (a .moves)))
-      → w ≡ (a .answered + 1) % 2 ^ 32
-      → record { associations = t; moves = ms; «next_identifier» = a .«next_identifier»; opened = a .opened; resent = a .resent; answered = w; «given_up» = a .«given_up» }
-      ≡ putPoint a (receiveResponse from p rs (getPoint a) .point)
-  unfolding receiveResponse withMoves withAssociations answering countsAfter counted getPoint
-  response-closes h t ms w f g k =
-      rw (earliest-at from p (getMoves (a .moves)) noMove, ← e, lt-ltb j (length (getMoves (a .moves))) (omega (arith, moves-length (a .moves) (z .moves))))
-      (put-parts a _ t ms (a .«next_identifier») (a .opened) (a .resent) w (a .«given_up») f
-      (g ∙ ap (putMoves (a .moves)) (sym (close-at from p (getMoves (a .moves)) ∙ ap (λ (x : ℕ). without x (getMoves (a .moves))) (sym e)))) refl refl refl k refl)
-
--- a MOVE-response sends nothing, and only identifier, station and sequence number of its packet are looked at
-response-same : (from : ℕ) (p : Packet) (rs : List Association) (a : machine.AccessPoint) → receiveResponse from (askedBy p) rs a ≡ receiveResponse from p rs a
-unfolding receiveResponse
-response-same from p rs a = sym (rw (earliest-asked from p (a .moves), close-asked from p (a .moves)))
-
-response-silent : (from : ℕ) (p : Packet) (rs : List Association) (a : machine.AccessPoint) → receiveResponse from p rs a .sends ≡ []
-unfolding receiveResponse quietly
-response-silent from p rs a = by-option (λ (x : Action). x .sends ≡ []) (earliest from p (a .moves)) (λ e. refl) (λ m e. refl)
-
-same-by : (t : ℕ) (c : List ℕ) (from : ℕ) (p : Packet) (a : machine.AccessPoint) → receiveBy (messageOf 2 t c) from (askedBy p) a ≡ receiveBy (messageOf 2 t c) from p a
-unfolding receiveBy messageOf
-same-by zero c from p a = response-same from p (fill (p .station) (p .sequence) c (a .associations)) a
-same-by (suc t) c from p a = response-same from p (dissociateExactly (p .station) (p .sequence) (a .associations)) a
-
-silent-by : (t : ℕ) (c : List ℕ) (from : ℕ) (p : Packet) (a : machine.AccessPoint) → receiveBy (messageOf 2 t c) from p a .sends ≡ []
-unfolding receiveBy messageOf
-silent-by zero c from p a = response-silent from p (fill (p .station) (p .sequence) c (a .associations)) a
-silent-by (suc t) c from p a = response-silent from p (dissociateExactly (p .station) (p .sequence) (a .associations)) a
-
--- by command: the packet that the reading r and the context c are, at the record a
-
-module _ (from : ℕ) (r : Reading) (c : List ℕ) (a : AccessPoint) where
-  pub by-add : (g : AccessPoint) (y : Reply) → r .command ≡ 0 → y .sent ≡ false → g ≡ putPoint a (receiveAdd (asked (r .identifier) (r .station) (r .sequence)) (getPoint a) .point)
-      → record { point = g; sends = repliesOf from (packetOf r c) y } ≡ handledBy from (packetOf r c) a
-  unfolding handledBy receive packetOf messageOf receiveBy receiveAdd quietly
-  by-add g y e f h = rw (e, f, h)
-
-  pub by-notify : (x : Handled) → r .command ≡ 1
-      → handledOf from (asked (r .identifier) (r .station) (r .sequence)) x ≡ resultOf a (receiveNotify from (asked (r .identifier) (r .station) (r .sequence)) (getPoint a))
-      → handledOf from (packetOf r c) x ≡ handledBy from (packetOf r c) a
-  unfolding handledBy receive packetOf messageOf receiveBy receiveNotify answeringWith answerTo
-  by-notify x e h = rw e h
-
-  pub by-response : (g : AccessPoint) (y : Reply) → r .command ≡ 2 → y .sent ≡ false
-      → g ≡ putPoint a (receiveBy (messageOf 2 (r .status) c) from (asked (r .identifier) (r .station) (r .sequence)) (getPoint a) .point)
-      → record { point = g; sends = repliesOf from (packetOf r c) y } ≡ handledBy from (packetOf r c) a
-  unfolding handledBy receive packetOf
-  by-response g y e f h =
-      let p : Packet = record { identifier = r .identifier; station = r .station; sequence = r .sequence; message = messageOf 2 (r .status) c } in
-      rw (e, f, h, same-by (r .status) c from p (getPoint a))
-      (λ k. record { point = putPoint a (receiveBy (messageOf 2 (r .status) c) from p (getPoint a) .point); sends = sym (silent-by (r .status) c from p (getPoint a)) k })
+      -- y is the excerpt with the association answered; its moves become ms, and its count of answered moves w
+      pub closes-one : j < x .moves .count → (y : Excerpt) (ms : Moves) (w : ℕ) → putBack a y ≡ afterAnswer
+          → ms ≡ putMoves (x .moves) (without j (getMoves (x .moves))) → w ≡ (x .answered + 1) % 2 ^ 32
+          → record {
+            associations = edited (y .edit) (y .at) (y .row) (a .associations);
+            moves = ms;
+            «next_identifier» = y .«next_identifier»;
+            opened = y .opened;
+            resent = y .resent;
+            answered = w;
+            «given_up» = y .«given_up»;
+          }
+          ≡ afterResponse
+      closes-one h y ms w f g k =
+          response-closes from (asked i s n) a (fits s a x q) (answeredBy t s n c (getAssociations (a .associations))) j place-of-move (omega (arith, ap (λ (m : Moves). m .count) (moves-is s a x q))) (putBack a y) ms w f
+          (g ∙ ap (λ (m : Moves). putMoves m (without j (getMoves m))) (moves-is s a x q)) (k ∙ ap (λ (z : Excerpt). (z .answered + 1) % 2 ^ 32) (q .same))
+          ∙ ap (λ (k : Action). putPoint a (k .point)) (response-is t c from i s n a)

@@ -15,6 +15,7 @@ use Rattle.record.specs.declared.AccessPoint.{AccessPoint}
 use Rattle.record.specs.Slots.{noAssociation}
 use Rattle.record.specs.Lens.{getPoint, putPoint}
 use Rattle.associations.specs.Rows.{isOf}
+use Rattle.excerpt.specs.Excerpts.{putBack}
 use Rattle.receiving.specs.declared.Reply.{Reply}
 use Rattle.receiving.specs.declared.Handled.{Handled}
 
@@ -27,8 +28,8 @@ pub record Result : Type 0 where
   pub point : AccessPoint
   pub sends : List Outgoing
 
-abbrev pub handledOf : ℕ → Packet → Handled → Result
-handledOf from p h = record { point = h .point; sends = repliesOf from p (h .reply) }
+abbrev pub handledOf : AccessPoint → ℕ → Packet → Handled → Result
+handledOf a from p h = record { point = putBack a (h .after); sends = repliesOf from p (h .reply) }
 
 -- what the machine's access point does, put back into the record
 abbrev pub resultOf : AccessPoint → Action → Result

@@ -10,7 +10,10 @@ use lib.Seq.{length-take-le}
 use Rattle.reader.specs.Read.{Reading, readingOf, readOf}
 use Rattle.reader.proofs.Steps.{accepted-limits}
 use Rattle.machine.specs.Packets.{readable, octetsIn}
-use Rattle.in_flight.specs.declared.Outbox.{Outbox}
+use Rattle.record.proofs.Sizes.{fits}
+use Rattle.excerpt.specs.declared.Excerpt.{Excerpt}
+use Rattle.excerpt.specs.Excerpts.{putBack, Seen}
+use Rattle.actions.specs.Done.{unchangedBy}
 use Rattle.actions.proofs.Laws.{part-within, context-part, context-short, receive-none, receive-silent, receive-answered}
 use Rattle.actions.proofs.receive.Statement.{statement}
 use Rattle.actions.proofs.receive.Tie as tie
@@ -28,6 +31,13 @@ accepted s h = eqb-true _ 0 (s .pre .1 h .1)
 reading : (c : tie.After-read) → readingOf (c .read .result) ≡ readOf (octetsIn (c .before .before .before .before .args .p))
 unfolding octetsIn
 reading c = c .read .ensures
+
+-- the excerpt is of the receiver's record, for the packet's station
+seen : (c : tie.After-of) → Seen (c .before .before .before .read .result .station) (c .before .before .before .before .before .before .before .args .a) (c .of .result)
+seen c =
+    let s = c .before .before .before .before .before .before .before in
+    let z = fits (s .args .a) _ (s .good .0) (s .pre .0) in
+    record { usable = s .pre .0; rows = z .associations; moves = z .moves; same = c .of .ensures }
 
 unchanged-requires : tie.Need-unchanged-requires
 unchanged-requires c κs = search needs
@@ -55,6 +65,9 @@ add-end c =
     let s = c .before .before .before .before .before in
     omega (arith, part-within (s .args .p) (readingOf (c .before .read .result)) (reading (c .before)), s .pre .1 (c .before .before .before .before .if1 .left) .0)
 
+of-requires : tie.Need-of-requires
+of-requires c κs = search needs
+
 sub-receive : tie.Need-sub-receive
 sub-receive c = search needs
 
@@ -63,51 +76,68 @@ part-receive-start c = search needs
 
 part-receive-end : tie.Need-part-receive-end
 part-receive-end c =
-    let d = c .before .before in
+    let d = c .before .before .before .before in
     let s = d .before .before .before .before in
     omega (arith, slots s, part-within (s .args .p) (readingOf (d .read .result)) (reading d), s .pre .1 (d .before .before .before .if1 .left) .0)
 
 receive-requires : tie.Need-receive-requires
 receive-requires c κs =
-    let d = c .before .before .before in
+    let o = c .before .before in
+    let d = o .before .before .before in
     let s = d .before .before .before .before in
     let p = s .args .p in
-    let r = readingOf (d .read .result) in
-    (s .pre .0, omega (arith, context-short p r (reading d) (accepted s (d .before .before .before .if1 .left))))
+    let r = readingOf (d .read .result) in (
+      omega (arith, ap (λ (x : Excerpt). x .moves .count) (o .of .ensures), s .pre .0 .moves),
+      omega (arith, context-short p r (reading d) (accepted s (d .before .before .before .if1 .left))),
+    )
+
+put-back-requires : tie.Need-put-back-requires
+put-back-requires c κs =
+    let h = c .before in
+    let o = h .before .before .before in
+    let s = o .before .before .before .before .before .before .before in
+    (s .pre .0 .associations, h .receive .ensures .0 (s .args .a) (seen o))
 
 unchanged-requires-2 : tie.Need-unchanged-requires-2
 unchanged-requires-2 c κs = search needs
 
 returns-2 : tie.Need-returns-2
 returns-2 c =
-    let h = c .before .before .before .before .before in
-    let d = h .before .before .before .before in
+    let k = c .before .before .before .before in
+    let h = k .before .before in
+    let o = h .before .before .before in
+    let d = o .before .before .before in
     let s = d .before .before .before .before in
     let p = s .args .p in
+    let a = s .args .a in
     let r = readingOf (d .read .result) in
-    c .unchanged2 .ensures
-    ∙ receive-silent (s .args .at) (s .args .count) p (s .args .a) (d .before .before .before .if1 .left) r (take (r .start + r .len - r .start) (drop (r .start) (p .octets))) (reading d) (context-part p r (reading d)) (h .receive .result .point) (h .receive .result .reply) (h .receive .ensures .0) (not-true _ (c .before .if2 .taken))
+    c .unchanged2 .ensures ∙ ap (unchangedBy 0) (k .put-back .ensures)
+    ∙ receive-silent (s .args .at) (s .args .count) p a (d .before .before .before .if1 .left) r (take (r .start + r .len - r .start) (drop (r .start) (p .octets))) (reading d) (context-part p r (reading d)) (putBack a (h .receive .result .after)) (h .receive .result .reply) (h .receive .ensures .1 .0 a (seen o)) (not-true _ (c .before .if2 .taken))
 
 response-requires : tie.Need-response-requires
 response-requires c κs =
-    let h = c .before .before .before .before in
-    let d = h .before .before .before .before in
+    let h = c .before .before .before .before .before in
+    let o = h .before .before .before in
+    let d = o .before .before .before in
     let s = d .before .before .before .before in
     let l = accepted-limits (octetsIn (s .args .p)) (accepted s (d .before .before .before .if1 .left)) in
-    (h .receive .ensures .1 .0, omega (arith, l .0, ap (λ (x : Reading). x .sequence) (reading d)))
+    (h .receive .ensures .1 .1 .0 (s .args .a) (seen o), omega (arith, l .0, ap (λ (x : Reading). x .sequence) (reading d)))
 
 one-requires : tie.Need-one-requires
 one-requires c κs = search needs
 
 returns-3 : tie.Need-returns-3
 returns-3 c =
-    let h = c .before .before .before .before .before .before in
-    let d = h .before .before .before .before in
+    let k = c .before .before .before .before .before in
+    let h = k .before .before in
+    let o = h .before .before .before in
+    let d = o .before .before .before in
     let s = d .before .before .before .before in
     let p = s .args .p in
+    let a = s .args .a in
     let r = readingOf (d .read .result) in
-    ap (λ (o : Outbox). record { answer = 0; point = h .receive .result .point; sent = o; «given_up» = 0 }) (c .one .ensures)
-    ∙ receive-answered (s .args .at) (s .args .count) p (s .args .a) (d .before .before .before .if1 .left) r (take (r .start + r .len - r .start) (drop (r .start) (p .octets))) (reading d) (context-part p r (reading d)) (h .receive .result .point) (h .receive .result .reply) (h .receive .ensures .0) (not-false _ (c .before .before .if2 .left)) _ (c .before .response .ensures)
+    (λ i. record { answer = 0; point = k .put-back .ensures i; sent = c .one .ensures i; «given_up» = 0 })
+    ∙ receive-answered (s .args .at) (s .args .count) p a (d .before .before .before .if1 .left) r (take (r .start + r .len - r .start) (drop (r .start) (p .octets))) (reading d) (context-part p r (reading d)) (putBack a (h .receive .result .after)) (h .receive .result .reply) (h .receive .ensures .1 .0 a (seen o)) (not-false _ (c .before .before .if2 .left)) _ (c .before .response .ensures)
 
 pub receive-spec : {M : Type 1} → statement M
 receive-spec =
@@ -119,10 +149,12 @@ receive-spec =
     slice-aggregate-read
     read-requires
     add-end
+    of-requires
     sub-receive
     part-receive-start
     part-receive-end
     receive-requires
+    put-back-requires
     unchanged-requires-2
     returns-2
     response-requires

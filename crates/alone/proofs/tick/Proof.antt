@@ -11,7 +11,7 @@ use Rattle.actions.specs.Done.{doneOf, tickOf}
 use Rattle.alone.specs.declared.Reply.{Reply}
 use Rattle.alone.specs.Told.{toldOf, tickAlone}
 use Rattle.alone.specs.Front.{postedOf}
-use Rattle.alone.proofs.Sizes.{packed-by}
+use Rattle.alone.proofs.Sizes.{action-packed}
 use Rattle.alone.proofs.Within.{moves-within}
 use Rattle.alone.proofs.Acts.{tell, tell-done, tell-refused, not-valid, tick-told}
 use Rattle.alone.proofs.tick.Statement.{statement}
@@ -65,7 +65,7 @@ post-requires : tie.Need-post-requires
 unfolding tickOf
 post-requires c κs =
     let t = c .before .before in
-    packed-by (t .tick .result) _ (t .tick .ok) _ _ _ _ (t .tick .ensures)
+    action-packed (t .tick .result) _ (t .tick .ok) _ _ _ _ (t .tick .ensures)
 
 same-length : tie.Need-same-length
 same-length c = search needs

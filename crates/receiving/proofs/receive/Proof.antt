@@ -6,7 +6,8 @@ use denote.Ref.{now}
 use Rattle.packet.specs.Fields.{octetOf}
 use Rattle.reader.specs.Read.{readingOf}
 use Rattle.record.specs.Lens.{getAssociations}
-use Rattle.receiving.proofs.Laws.{none-sent, none-small, reply-by-0, reply-by-1, reply-by-2, by-add, by-notify, by-response}
+use Rattle.excerpt.specs.Excerpts.{putBack}
+use Rattle.receiving.proofs.Rules.{none-sent, none-small, reply-by-0, reply-by-1, reply-by-2, by-add, by-notify, by-response}
 use Rattle.receiving.proofs.receive.Statement.{statement}
 use Rattle.receiving.proofs.receive.Tie as tie
 
@@ -22,8 +23,11 @@ no-reply-requires c κs = search needs
 enum-told-2 : tie.Need-enum-told-2
 enum-told-2 c = search needs
 
-receive-notify-requires : tie.Need-receive-notify-requires
-receive-notify-requires c κs = search needs
+receive-add-requires-2 : tie.Need-receive-add-requires-2
+receive-add-requires-2 c κs = search needs
+
+notify-reply-requires : tie.Need-notify-reply-requires
+notify-reply-requires c κs = search needs
 
 enum-told-3 : tie.Need-enum-told-3
 enum-told-3 c = search needs
@@ -36,24 +40,45 @@ no-reply-requires-2 c κs = search needs
 
 returns : tie.Need-returns
 returns c =
-    let s = c .before .before .before .before .before .before in
-    let r = readingOf (s .args .r) in
+    let g = c .before .before .before .before .before .before .args in
+    let r = readingOf (g .r) in
     let e = ap octetOf (c .before .before .enum-told .given .1) in
-    (by-add (s .args .from) r (now (s .args .context)) (s .args .a) (c .before .receive-add .result) (c .no-reply .result) e (none-sent _ (c .no-reply .ensures)) (c .before .receive-add .ensures), (none-small _ (c .no-reply .ensures), c .no-reply .ensures ∙ reply-by-0 _ (s .args .r .station) (s .args .r .sequence) (getAssociations (s .args .a .associations)) e))
+    let x = c .before .receive-add in
+    let y = c .no-reply in (
+      (λ a q. x .ensures .0 (r .station) a q),
+      (
+        (λ a q. by-add (g .from) r (now (g .context)) a (putBack a (x .result)) (y .result) e (none-sent _ (y .ensures)) (x .ensures .1 (r .station) a q)),
+        ((λ a q. none-small _ (y .ensures)), (λ a q. y .ensures ∙ reply-by-0 _ (r .station) (r .sequence) (getAssociations (a .associations)) e)),
+      ),
+    )
 
 returns-2 : tie.Need-returns-2
 returns-2 c =
-    let s = c .before .before .before .before .before in
-    let r = readingOf (s .args .r) in
-    let e = ap octetOf (c .before .enum-told2 .given .1) in
-    (by-notify (s .args .from) r (now (s .args .context)) (s .args .a) (c .receive-notify .result) e (c .receive-notify .ensures .0), (c .receive-notify .ensures .1 .0, c .receive-notify .ensures .1 .1 ∙ reply-by-1 _ (s .args .r .station) (s .args .r .sequence) (getAssociations (s .args .a .associations)) e))
+    let g = c .before .before .before .before .before .before .args in
+    let r = readingOf (g .r) in
+    let e = ap octetOf (c .before .before .enum-told2 .given .1) in
+    let x = c .before .receive-add2 in
+    let y = c .notify-reply in (
+      (λ a q. x .ensures .0 (r .station) a q),
+      (
+        (λ a q. by-notify (g .from) r (now (g .context)) a (putBack a (x .result)) (y .result) (q .usable .distinct-stations) e (y .ensures .0 (r .station) a q) (x .ensures .1 (r .station) a q)),
+        ((λ a q. y .ensures .1 (r .station) a q), (λ a q. y .ensures .0 (r .station) a q ∙ reply-by-1 _ (r .station) (r .sequence) (getAssociations (a .associations)) e)),
+      ),
+    )
 
 returns-3 : tie.Need-returns-3
 returns-3 c =
-    let s = c .before .before .before .before .before .before in
-    let r = readingOf (s .args .r) in
+    let g = c .before .before .before .before .before .before .args in
+    let r = readingOf (g .r) in
     let e = ap octetOf (c .before .before .enum-told3 .given .1) in
-    (by-response (s .args .from) r (now (s .args .context)) (s .args .a) (c .before .receive-response .result) (c .no-reply2 .result) e (none-sent _ (c .no-reply2 .ensures)) (c .before .receive-response .ensures), (none-small _ (c .no-reply2 .ensures), c .no-reply2 .ensures ∙ reply-by-2 _ (s .args .r .station) (s .args .r .sequence) (getAssociations (s .args .a .associations)) e))
+    let x = c .before .receive-response in
+    let y = c .no-reply2 in (
+      (λ a q. x .ensures .0 a q),
+      (
+        (λ a q. by-response (g .from) r (now (g .context)) a (putBack a (x .result)) (y .result) e (none-sent _ (y .ensures)) (x .ensures .1 a q)),
+        ((λ a q. none-small _ (y .ensures)), (λ a q. y .ensures ∙ reply-by-2 _ (r .station) (r .sequence) (getAssociations (a .associations)) e)),
+      ),
+    )
 
 pub receive-spec : {M : Type 1} → statement M
 receive-spec =
@@ -63,7 +88,8 @@ receive-spec =
     receive-add-requires
     no-reply-requires
     enum-told-2
-    receive-notify-requires
+    receive-add-requires-2
+    notify-reply-requires
     enum-told-3
     receive-response-requires
     no-reply-requires-2

@@ -1,15 +1,9 @@
 -- `receiving::receive_response` meets its contract: the move found closes, or nothing happens.
 -- Assumes nothing.
-use mathlib.Core.Path.{ap, _∙_}
-use native.Mathlib.Omega.{arith}
 use borrow.Author.Needs.{needs}
 use denote.Ref.{now}
-use Rattle.machine.specs.AccessPoint.{Action}
-use Rattle.record.proofs.Sizes.{fits}
-use Rattle.record.specs.Lens.{getAssociations, putPoint}
-use Rattle.moves.specs.Asked.{asked}
-use Rattle.receiving.proofs.Laws.{response-is, response-none, response-closes}
-use Rattle.receiving.specs.Receive.{answeredBy}
+use Rattle.excerpt.proofs.Laws.{back-allowed}
+use Rattle.receiving.proofs.Laws.{closes-none, closes-one}
 use Rattle.receiving.proofs.receive_response.Statement.{statement}
 use Rattle.receiving.proofs.receive_response.Tie as tie
 
@@ -18,33 +12,33 @@ find-requires c κs = search needs
 
 returns : tie.Need-returns
 returns c =
-    let s = c .before .before .before .before .before in
-    let a = s .args .a in
-    let z = fits a _ (s .good .0) (s .pre .0) in
-    let rs = answeredBy (s .args .status) (s .args .station) (s .args .sequence) (now (s .args .context)) (getAssociations (a .associations)) in
-    let f = c .before .before .find in
-    let q = response-is (s .args .status) (now (s .args .context)) (s .args .from) (s .args .identifier) (s .args .station) (s .args .sequence) a in
-    response-none (s .args .from) (asked (s .args .identifier) (s .args .station) (s .args .sequence)) a z rs (f .result) (f .ensures) (omega arith) ∙ ap (λ (x : Action). putPoint a (x .point)) q
+    let g = c .before .before .before .before .before .args in
+    let s = g .station in
+    let x = g .x in
+    let f = c .before .before .find in (
+      (λ a q. back-allowed s a x q),
+      (λ a q. closes-none s a x q (g .sequence) (g .status) (now (g .context)) (g .from) (g .identifier) (f .result) (f .ensures) (c .if1 .taken)),
+    )
 
 remove-requires : tie.Need-remove-requires
 remove-requires c κs = search needs
 
-answered-table-requires : tie.Need-answered-table-requires
-answered-table-requires c κs = search needs
+answered-requires : tie.Need-answered-requires
+answered-requires c κs = search needs
 
 wrapping-add-u32-requires : tie.Need-wrapping-add-u32-requires
 wrapping-add-u32-requires c κs = search needs
 
 returns-2 : tie.Need-returns-2
 returns-2 c =
-    let s = c .before .before .before .before .before .before .before .before .before in
-    let a = s .args .a in
-    let z = fits a _ (s .good .0) (s .pre .0) in
-    let rs = answeredBy (s .args .status) (s .args .station) (s .args .sequence) (now (s .args .context)) (getAssociations (a .associations)) in
-    let f = c .before .before .before .before .before .before .find in
-    let q = response-is (s .args .status) (now (s .args .context)) (s .args .from) (s .args .identifier) (s .args .station) (s .args .sequence) a in
-    response-closes (s .args .from) (asked (s .args .identifier) (s .args .station) (s .args .sequence)) a z rs (f .result) (f .ensures) (omega arith) _ _ _ (c .before .answered-table .ensures) (c .before .before .before .remove .ensures) (c .wrapping-add-u32 .ensures)
-    ∙ ap (λ (x : Action). putPoint a (x .point)) q
+    let g = c .before .before .before .before .before .before .before .before .args in
+    let s = g .station in
+    let x = g .x in
+    let f = c .before .before .before .before .before .find in
+    let y = c .before .answered in (
+      (λ a q. y .ensures .0 s a q),
+      (λ a q. closes-one s a x q (g .sequence) (g .status) (now (g .context)) (g .from) (g .identifier) (f .result) (f .ensures) (c .before .before .before .if1 .left) (y .result) _ _ (y .ensures .1 s a q) (c .before .before .remove .ensures) (c .wrapping-add-u32 .ensures)),
+    )
 
 pub receive-response-spec : {M : Type 1} → statement M
 receive-response-spec =
@@ -53,6 +47,6 @@ receive-response-spec =
     find-requires
     returns
     remove-requires
-    answered-table-requires
+    answered-requires
     wrapping-add-u32-requires
     returns-2)

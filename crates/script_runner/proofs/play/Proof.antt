@@ -391,7 +391,7 @@ rest-slots j =
 
 -- eight slots
 outbox : (t : tie.After-takes Inv-loop2 μ-loop2 Inv-loop3 μ-loop3 Inv-loop4 μ-loop4 Inv-loop μ-loop) → length (action-of t .action .result .sent .items) ≡ 8
-outbox t = simp length-map at (action-of t .action .ok .1 .1 .1 .1 .0 .1 .1 .0 .1 .0 .1)
+outbox t = simp length-map at (action-of t .action .ok .1 .1 .1 .0 .1 .1 .0 .1 .0 .1)
 
 loop4-holds : tie.Need-loop4-holds Inv-loop2 μ-loop2 Inv-loop3 μ-loop3 Inv-loop4 μ-loop4 Inv-loop μ-loop
 unfolding posted
