@@ -1,4 +1,5 @@
 // One access point's record as a whole: whether 14 applies to it, a tick, and the call for outside bytes.
+#![tactic(auto)]
 ghost use Rattle.std.specs.Prelude.{◌≡◌, ◌≤◌, length};
 ghost use Rattle.answers.specs.declared.Answer.TheVariants.{Accepted};
 ghost use Rattle.reader.specs.Read.{reading_of};
@@ -19,7 +20,7 @@ use record::{AccessPoint, LoneAccessPoint, Moves};
 use writer::Written;
 
 // What a tick leaves: the record, the moves whose notice is sent again, and how many were given up.
-#[derive(Drop)]
+#[derive(Clone, Copy)]
 pub struct Ticking {
     pub point: AccessPoint,
     pub due: Moves,
@@ -27,7 +28,7 @@ pub struct Ticking {
 }
 
 // What outside bytes lead to: the answer, the record and the length written.
-#[derive(Drop)]
+#[derive(Clone, Copy)]
 pub struct Answered {
     pub lone: LoneAccessPoint,
     pub answer: Answer,

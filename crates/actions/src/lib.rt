@@ -1,4 +1,5 @@
 // What an access point does at an event: its answer, its record afterwards, and its packets, written and in order of sending.
+#![tactic(auto)]
 ghost use Rattle.std.specs.Prelude.{◌≡◌, true, [], map, ◌≤◌, ◌<◌};
 ghost use Rattle.answers.specs.Numbers.{number_of};
 ghost use Rattle.machine.specs.Stations.{is_group};
@@ -19,7 +20,7 @@ use in_flight::Outbox;
 use joining::{Notice, Old};
 use record::AccessPoint;
 
-#[derive(Drop)]
+#[derive(Clone, Copy)]
 pub struct Action {
     pub point: AccessPoint,
     pub sent: Outbox,
@@ -64,7 +65,7 @@ fn notice_sent(own: u8, ap_count: u8, station: [u8; 6], sequence: u16, notice: N
 }
 
 // What a join does, on an excerpt of the AP's record for the station.
-#[derive(Drop)]
+#[derive(Clone, Copy)]
 pub struct Joining {
     pub answer: Answer,
     pub after: Excerpt,

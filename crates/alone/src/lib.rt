@@ -1,5 +1,6 @@
 // One access point alone, its record by value: set-up, the events that it gives itself, and outside bytes. The packets that it sends are
 // written one after the other at the front of a lent buffer.
+#![tactic(auto)]
 ghost use Rattle.std.specs.Prelude.{◌≡◌, ◌≤◌, length};
 ghost use Rattle.answers.specs.Numbers.{number_of};
 ghost use Rattle.joining.specs.Join.{old_of};
@@ -15,7 +16,7 @@ use record::{AccessPoint, Associations, LoneAccessPoint};
 // What a call answers: document 01's number, how many packets were written and how many moves given up, whether the station has a
 // row, the receivers of the packets in order, and the length written. What a call has no use for is 0.
 #[repr(C)]
-#[derive(Drop)]
+#[derive(Clone, Copy)]
 pub struct Reply {
     pub answer: u8,
     pub sent: u8,
@@ -26,7 +27,7 @@ pub struct Reply {
 }
 
 // The record after a call, and its reply.
-#[derive(Drop)]
+#[derive(Clone, Copy)]
 pub struct Outcome {
     pub lone: LoneAccessPoint,
     pub reply: Reply,
@@ -145,7 +146,7 @@ fn write_all(buffer: &mut [u8], sent: Outbox)
         let p = sent.items[i];
         let octets = p.octets;
         let len = p.len;
-        bytes::copy(&octets[..len], &mut buffer[at..]);
+        octets::copy(&octets[..len], &mut buffer[at..]);
         at += len;
         i += 1;
     }

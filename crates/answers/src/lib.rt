@@ -1,9 +1,10 @@
 // What a call answers, and document 01's number for it.
+#![tactic(auto)]
 ghost use Rattle.std.specs.Prelude.{◌≡◌};
 ghost use Rattle.answers.specs.Numbers.{number_of};
 
 // Document 01, "Refusals by origin": accepted, or the refusal that decides.
-#[derive(Drop)]
+#[derive(Clone, Copy)]
 pub enum Answer {
     Accepted,
     // Whoever sends a packet.

@@ -1,4 +1,5 @@
 // The table of one access point. Document 01: its rows, "in order of arrival".
+#![tactic(auto)]
 ghost use Rattle.std.specs.Prelude.{◌≡◌, ◌&&◌, ◌≤◌, ◌<◌, leb, length};
 ghost use Rattle.lists.specs.Places.{without, every};
 ghost use Rattle.lists.specs.Search.{index_by, placed};
@@ -115,7 +116,7 @@ pub fn new_association(station: [u8; 6], sequence: u16, context: &[u8]) -> Assoc
 {
     let n = context.len();
     let mut octets = [0u8; 64];
-    bytes::copy(context, &mut octets);
+    octets::copy(context, &mut octets);
     Association {
         station,
         sequence,

@@ -1,9 +1,10 @@
 // The elements of an access point's record and of a network's: structs by value. The machine's lists hold them, and so do the
 // record's arrays.
+#![tactic(auto)]
 
 // Document 01: a row of an AP's table.
 #[repr(C)]
-#[derive(Drop)]
+#[derive(Clone, Copy)]
 pub struct Association {
     pub station: [u8; 6],
     pub sequence: u16,
@@ -14,7 +15,7 @@ pub struct Association {
 
 // Document 01: an open move.
 #[repr(C)]
-#[derive(Drop)]
+#[derive(Clone, Copy)]
 pub struct Move {
     pub station: [u8; 6],
     pub sequence: u16,
@@ -27,7 +28,7 @@ pub struct Move {
 
 // Document 01: a packet in the air, as octets, with sender and receiver. The longest packet has 82 octets.
 #[repr(C)]
-#[derive(Drop)]
+#[derive(Clone, Copy)]
 pub struct InFlight {
     pub from: u8,
     pub to: u8,

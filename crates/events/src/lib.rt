@@ -1,5 +1,6 @@
 // The floor's events, taken apart. Whoever holds a network asks here which packet and which access point an event is about, what that does,
 // and what is then in flight, and stores the two: nothing else of the network changes, and nothing else is copied.
+#![tactic(auto)]
 ghost use Rattle.std.specs.Prelude.{◌≡◌, true, cond, map, ◌+◌, ◌*◌, ◌≤◌, ◌<◌, ltb, take};
 ghost use Rattle.lists.specs.Places.{every, All};
 ghost use Rattle.machine.specs.Packets.{readable, octets_in};
@@ -21,7 +22,7 @@ use network::InFlights;
 use record::AccessPoint;
 
 // Document 01, "The floor machine": the seven events.
-#[derive(Drop)]
+#[derive(Clone, Copy)]
 pub enum Kind {
     Join,
     Leave,
@@ -33,7 +34,7 @@ pub enum Kind {
 }
 
 // An event but for a join's context. `at` is the AP, or the packet for deliver, repeat and lose. What an event has no use for is ignored.
-#[derive(Drop)]
+#[derive(Clone, Copy)]
 pub struct Event {
     pub kind: Kind,
     pub at: u16,

@@ -1,5 +1,6 @@
 // What the rules of one access point read and change of its record: the row of one station, and everything but the other rows. The
 // rules are handed this and hand it back, and not the whole table; then it is put back into the record, in one place.
+#![tactic(auto)]
 ghost use Rattle.std.specs.Prelude.{◌≡◌, ◌≤◌, ◌<◌, get_or};
 ghost use Rattle.record.specs.Slots.{no_association};
 ghost use Rattle.record.specs.Lens.{get_associations};
@@ -9,14 +10,14 @@ use elements::Association;
 use record::{AccessPoint, Associations, Moves};
 
 // What happens to the table: nothing, the row at a place becomes another one (a new one last), or it is removed.
-#[derive(Drop)]
+#[derive(Clone, Copy)]
 pub enum Edit {
     Keep,
     Place,
     Remove,
 }
 
-#[derive(Drop)]
+#[derive(Clone, Copy)]
 pub struct Excerpt {
     pub edit: Edit,
     // The place of the station's row, or the number of rows where it has none.

@@ -1,4 +1,5 @@
 // The floor link: set-up and the seven events, on a network's record handed on by value.
+#![tactic(auto)]
 ghost use Rattle.std.specs.Prelude.{◌≡◌, true, false, [], replicate};
 ghost use Rattle.std.proofs.Math.Option.{none};
 ghost use Rattle.answers.specs.Numbers.{number_of};
@@ -17,7 +18,7 @@ use network::Network;
 use record::{AccessPoint, Associations};
 
 // ANSWER, SENT, GIVENUP, HELD and TABLES.
-#[derive(Drop)]
+#[derive(Clone, Copy)]
 pub struct Line {
     pub answer: Answer,
     pub sent: u8,
@@ -27,14 +28,14 @@ pub struct Line {
 }
 
 // What an event answers, and the network after it.
-#[derive(Drop)]
+#[derive(Clone, Copy)]
 pub struct Reply {
     pub line: Line,
     pub network: Network,
 }
 
 // What set-up answers, and the new network.
-#[derive(Drop)]
+#[derive(Clone, Copy)]
 pub struct SetUp {
     pub answer: Answer,
     pub network: Network,

@@ -1,4 +1,5 @@
 // The packets in flight between access points. Document 01: the air, "up to 64 packets in order of sending".
+#![tactic(auto)]
 ghost use Rattle.std.specs.Prelude.{◌≡◌, ◌&&◌, ◌≤◌, ◌<◌, leb};
 ghost use Rattle.lists.specs.Places.{without, every};
 ghost use Rattle.machine.specs.Valid.{valid_in_flight};
@@ -9,7 +10,7 @@ use elements::InFlight;
 use network::InFlights;
 
 // The packets that one event sends, in order: an announcement goes to seven APs at most, and a tick sends eight notices again at most.
-#[derive(Drop)]
+#[derive(Clone, Copy)]
 pub struct Outbox {
     pub items: [InFlight; 8],
     pub count: usize,

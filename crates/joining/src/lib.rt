@@ -1,4 +1,5 @@
 // A station joins one access point: the AP's own refusals 15, 16 and 17, its record afterwards, and what it sends.
+#![tactic(auto)]
 ghost use Rattle.std.specs.Prelude.{◌≡◌, ◌<◌, ◌≤◌, [], length};
 ghost use Rattle.lists.specs.Table.{first_of};
 ghost use Rattle.answers.specs.Numbers.{number_of};
@@ -15,14 +16,14 @@ use elements::{Association, Move};
 use excerpt::{Edit, Excerpt};
 
 // The old AP that a join names: none, or any number.
-#[derive(Drop)]
+#[derive(Clone, Copy)]
 pub enum Old {
     Nothing,
     At(u16),
 }
 
 // Where it is: another AP of the floor, this AP, or none or not on the floor.
-#[derive(Drop)]
+#[derive(Clone, Copy)]
 pub enum Origin {
     Another(u8),
     This,
@@ -30,14 +31,14 @@ pub enum Origin {
 }
 
 // What a join sends: nothing, ADD-notify with this identifier to every other AP, or MOVE-notify with it to the old AP.
-#[derive(Drop)]
+#[derive(Clone, Copy)]
 pub enum Notice {
     Silent,
     Announce(u16),
     Notify(u16, u8),
 }
 
-#[derive(Drop)]
+#[derive(Clone, Copy)]
 pub struct Joined {
     pub answer: Answer,
     pub after: Excerpt,

@@ -1,4 +1,5 @@
 // A network's calls as a caller that lends its record makes them: what is asked of it, by value, and what it answers, in numbers.
+#![tactic(auto)]
 ghost use Rattle.std.specs.Prelude.{◌≡◌, min, [], take};
 ghost use Rattle.std.proofs.Math.Option.{none};
 ghost use Rattle.machine.specs.Events as machine;
@@ -15,7 +16,7 @@ use network::Network;
 
 // ANSWER, SENT, GIVENUP, HELD and TABLES, each as document 01's number.
 #[repr(C)]
-#[derive(Drop)]
+#[derive(Clone, Copy)]
 pub struct Line {
     pub answer: u8,
     pub sent: u8,
@@ -25,7 +26,7 @@ pub struct Line {
 }
 
 // The network after a call, and what it answers.
-#[derive(Drop)]
+#[derive(Clone, Copy)]
 pub struct Outcome {
     pub network: Network,
     pub line: Line,
@@ -83,7 +84,7 @@ pub fn set_up(network: Network, ap_count: u16, timeout: u16, resend_limit: u16) 
 
 // What is asked: an event, with a join's context in the first `len` octets. A context of more than 64 octets is 9, whatever else it has, so
 // 65 of them are enough.
-#[derive(Drop)]
+#[derive(Clone, Copy)]
 pub struct Asked {
     pub event: Event,
     pub len: usize,
@@ -125,7 +126,7 @@ pub fn join(at: u16, station: &[u8; 6], sequence: u16, old: u32, context: &[u8])
     let from = alone::old_named(old);
     let n = at_most_65(context.len());
     let mut octets = [0u8; 65];
-    bytes::copy(&context[..n], &mut octets);
+    octets::copy(&context[..n], &mut octets);
     Asked {
         event: Event {
             kind: Kind::Join,

@@ -1,4 +1,5 @@
 // The open moves of one access point: found, closed, opened, tested, and what a tick does to them.
+#![tactic(auto)]
 ghost use Rattle.std.specs.Prelude.{◌≡◌, true, ◌&&◌, map, ◌++◌, [], ◌∷◌, ◌≤◌, ◌<◌, leb, length};
 ghost use Rattle.lists.specs.Places.{without, every};
 ghost use Rattle.lists.specs.Search.{index_by};
@@ -139,7 +140,7 @@ pub fn valid(t: Moves, ap_count: u8) -> bool
 }
 
 // What a tick gives: the moves that stay open, those of them that are sent again, and how many are given up.
-#[derive(Drop)]
+#[derive(Clone, Copy)]
 pub struct Ticked {
     pub kept: Moves,
     pub due: Moves,

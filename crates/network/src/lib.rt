@@ -1,10 +1,11 @@
 // The record of a network, by value: its access points and the packets in flight, with their used lengths.
+#![tactic(auto)]
 use elements::InFlight;
 use record::AccessPoint;
 
 // Document 01: the air, its packets in order of sending.
 #[repr(C)]
-#[derive(Drop)]
+#[derive(Clone, Copy)]
 pub struct InFlights {
     pub items: [InFlight; 64],
     pub count: usize,
@@ -12,7 +13,7 @@ pub struct InFlights {
 
 // Document 01: the floor, its APs numbered from 0.
 #[repr(C)]
-#[derive(Drop)]
+#[derive(Clone, Copy)]
 pub struct Network {
     pub ap_count: u8,
     // Document 01: T, in ticks, and R.

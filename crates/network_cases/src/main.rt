@@ -7,6 +7,7 @@
 //
 // A station is a number, see `words::station`, and the context is its number of octets, see `turns::rising`. A missing field is `-` or
 // left out. Any other line is printed as it is.
+#![tactic(auto)]
 mod digest;
 mod line;
 mod parts;

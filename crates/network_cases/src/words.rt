@@ -2,7 +2,7 @@
 ghost use Rattle.std.specs.Prelude.{◌<◌, ◌≤◌, length};
 
 // A field: its number, modulo 65536, and whether it is one. `-` and a missing field are none.
-#[derive(Drop)]
+#[derive(Clone, Copy)]
 pub struct Field {
     pub given: bool,
     pub value: u16,

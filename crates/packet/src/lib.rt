@@ -1,8 +1,9 @@
 // Packets of the Inter-Access Point Protocol: their commands and fields. Where each field stands is in specs/Layout.antt.
+#![tactic(auto)]
 ghost use Rattle.std.specs.Prelude.{◌≡◌};
 ghost use Rattle.packet.specs.Fields.{octet_of};
 
-#[derive(Drop)]
+#[derive(Clone, Copy)]
 pub enum Command {
     AddNotify,
     MoveNotify,
@@ -21,7 +22,7 @@ pub fn octet(c: Command) -> u8
 }
 
 // A packet but for its context block. Only a MOVE-response has a status: 0 is SUCCESSFUL, 1 is STALE_MOVE.
-#[derive(Drop)]
+#[derive(Clone, Copy)]
 pub struct Packet {
     pub command: Command,
     pub identifier: u16,

@@ -1,6 +1,7 @@
 // Reads and writes packets at the edges of document 01's rules, and prints what comes back. Each case has a line with its
 // name and a line with the values, under the names of the columns. Octets are in hex and `-` is an empty part; other
 // numbers are decimal.
+#![tactic(auto)]
 mod line;
 mod reads;
 mod refusals;

@@ -6,7 +6,7 @@ use joining::{Notice, Old};
 use record::{AccessPoint, LoneAccessPoint};
 
 // What a join answers, the record after it, and what it sends.
-#[derive(Drop)]
+#[derive(Clone, Copy)]
 pub struct Tried {
     pub point: AccessPoint,
     pub answer: Answer,

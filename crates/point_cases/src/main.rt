@@ -1,5 +1,6 @@
 // Takes one access point to the edges of document 01's rules and prints what comes back. Each case has a line with its name and
 // lines with the values, under the names of the columns. Octets are in hex and `-` is an empty part; other numbers are decimal.
+#![tactic(auto)]
 mod acts;
 mod broken;
 mod joins;

@@ -1,5 +1,6 @@
 // The reader of packets: the refusals first, the header's and then those of the data, the part that begins at octet 6; then the
 // fields of an accepted packet.
+#![tactic(auto)]
 ghost use Rattle.std.specs.Prelude.{◌≡◌, ◌+◌, ◌≤◌, ◌<◌, length, take, drop};
 ghost use Rattle.lists.specs.Table.{first_of, accepts};
 ghost use Rattle.answers.specs.Numbers.{number_of};
@@ -12,7 +13,7 @@ use answers::Answer;
 use packet::Command;
 
 // What reading a packet finds. The context block is the part of the packet from octet `start` on, of `len` octets.
-#[derive(Drop)]
+#[derive(Clone, Copy)]
 pub struct Received {
     pub answer: Answer,
     pub command: Command,

@@ -1,5 +1,6 @@
 // One access point receives a packet, or a station leaves it: the excerpt of its record afterwards, and its answer if it gives one.
 // What is proved holds for every record that the excerpt is of, once the result is put back into it.
+#![tactic(auto)]
 ghost use Rattle.std.specs.Prelude.{◌≡◌, ◌≤◌, length};
 ghost use Rattle.reader.specs.Read.{reading_of};
 ghost use Rattle.machine.specs.Stations.{Station};
@@ -17,7 +18,7 @@ use packet::Command;
 use reader::Received;
 
 // An answer to a MOVE-notify: whether there is one, its status, and its context in the first len octets.
-#[derive(Drop)]
+#[derive(Clone, Copy)]
 pub struct Reply {
     pub sent: bool,
     pub status: u8,
@@ -25,7 +26,7 @@ pub struct Reply {
     pub context: [u8; 64],
 }
 
-#[derive(Drop)]
+#[derive(Clone, Copy)]
 pub struct Handled {
     pub after: Excerpt,
     pub reply: Reply,

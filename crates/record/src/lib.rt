@@ -1,9 +1,10 @@
 // The record of one access point, by value: arrays of associations and moves with their used lengths.
+#![tactic(auto)]
 use elements::{Association, Move};
 
 // Document 01: an AP's table, its rows in order of arrival.
 #[repr(C)]
-#[derive(Drop)]
+#[derive(Clone, Copy)]
 pub struct Associations {
     pub items: [Association; 16],
     pub count: usize,
@@ -11,7 +12,7 @@ pub struct Associations {
 
 // Document 01: an AP's open moves, in order of opening.
 #[repr(C)]
-#[derive(Drop)]
+#[derive(Clone, Copy)]
 pub struct Moves {
     pub items: [Move; 8],
     pub count: usize,
@@ -19,7 +20,7 @@ pub struct Moves {
 
 // Document 01: an access point's record.
 #[repr(C)]
-#[derive(Drop)]
+#[derive(Clone, Copy)]
 pub struct AccessPoint {
     pub associations: Associations,
     pub moves: Moves,
@@ -32,7 +33,7 @@ pub struct AccessPoint {
 
 // Document 01: one AP alone, "whose record is then held together with its own number, the floor's AP count, T and R".
 #[repr(C)]
-#[derive(Drop)]
+#[derive(Clone, Copy)]
 pub struct LoneAccessPoint {
     pub point: AccessPoint,
     pub number: u8,

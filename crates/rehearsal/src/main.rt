@@ -1,19 +1,20 @@
 // The floor rehearsal: a script on standard input, its results on standard output. Standard input is read piece by piece, so a script
 // can have any length. Lines that have ended are played at once; what is left of the last one is kept for the next piece.
+#![tactic(auto)]
 ghost use Rattle.std.specs.Prelude.{◌≡◌, true, ◌*◌, ◌≤◌, length};
 ghost use Rattle.network.specs.Events.{valid_network_record};
 
 use network::Network;
 
 // How many octets are there, and whether standard input has ended.
-#[derive(Drop)]
+#[derive(Clone, Copy)]
 struct Got {
     len: usize,
     ended: bool,
 }
 
 // The network after some lines, and whether their results were written.
-#[derive(Drop)]
+#[derive(Clone, Copy)]
 struct Shown {
     written: bool,
     network: Network,

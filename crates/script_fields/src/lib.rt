@@ -1,4 +1,5 @@
 // The fields of a script's lines: names, numbers, stations and contexts, each read from its own octets.
+#![tactic(auto)]
 ghost use Rattle.std.specs.Prelude.{◌≡◌, true, ◌+◌, ◌*◌, ◌≤◌, ◌<◌, length, get_or, replicate};
 ghost use Rattle.std.proofs.Math.Option.{none, some};
 ghost use Rattle.lists.specs.Places.{every};
@@ -14,35 +15,35 @@ use events::Kind;
 use joining::Old;
 
 // A number, or none and 0.
-#[derive(Drop)]
+#[derive(Clone, Copy)]
 pub struct Number {
     pub given: bool,
     pub value: u16,
 }
 
 // A station, or none and zeros.
-#[derive(Drop)]
+#[derive(Clone, Copy)]
 pub struct Address {
     pub given: bool,
     pub octets: [u8; 6],
 }
 
 // OLD of a join; Nothing where it is unreadable.
-#[derive(Drop)]
+#[derive(Clone, Copy)]
 pub struct OldPoint {
     pub given: bool,
     pub old: Old,
 }
 
 // The octets of a context: how many there are, or none and 0.
-#[derive(Drop)]
+#[derive(Clone, Copy)]
 pub struct Octets {
     pub given: bool,
     pub len: usize,
 }
 
 // An event by its name; Who where none has it.
-#[derive(Drop)]
+#[derive(Clone, Copy)]
 pub struct Named {
     pub given: bool,
     pub kind: Kind,

@@ -1,4 +1,5 @@
 // Lines of a script read: an event or an unreadable line, and the set-up of the first three lines.
+#![tactic(auto)]
 ghost use Rattle.std.specs.Prelude.{◌≡◌, ◌≤◌, length, get_or};
 ghost use Rattle.std.proofs.Math.Option.{none};
 ghost use Rattle.script.specs.Text.{place_from, next_from};
@@ -15,7 +16,7 @@ const LONGEST_LINE: usize = 255;
 
 // What a line of an event says. An unreadable one is a who of no station, which changes nothing. The octets of the context are in
 // the array that was lent.
-#[derive(Drop)]
+#[derive(Clone, Copy)]
 pub struct Heard {
     pub readable: bool,
     pub event: Event,
@@ -23,7 +24,7 @@ pub struct Heard {
 }
 
 // The set-up that a script begins with: APS, TIMEOUT and RESENDS, and where the lines of events begin. All 0 where it is bad.
-#[derive(Drop)]
+#[derive(Clone, Copy)]
 pub struct Opening {
     pub given: bool,
     pub aps: u16,
@@ -33,7 +34,7 @@ pub struct Opening {
 }
 
 // The ends of the first five fields of a line, and whether there are six.
-#[derive(Drop)]
+#[derive(Clone, Copy)]
 struct Ends {
     six: bool,
     ends: [usize; 5],

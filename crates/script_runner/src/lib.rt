@@ -1,4 +1,5 @@
 // A script run on a floor: the lines of events on a network's record, and a whole script from its set-up on.
+#![tactic(auto)]
 ghost use Rattle.std.specs.Prelude.{◌≡◌, true, cond, ◌++◌, ◌+◌, ◌≤◌, leb, length};
 ghost use Rattle.answers.specs.Numbers.{number_of};
 ghost use Rattle.network.specs.Events.{valid_network_record};
@@ -17,7 +18,7 @@ use network::Network;
 
 // Whether what the lines print fits the buffer; the record after them, and the length of what they print. Where it does not fit, the
 // record as it came, and 0.
-#[derive(Drop)]
+#[derive(Clone, Copy)]
 pub struct Played {
     pub fits: bool,
     pub network: Network,
@@ -25,7 +26,7 @@ pub struct Played {
 }
 
 // What a whole script answers: 0 and the length of its output, or 10 and 0.
-#[derive(Drop)]
+#[derive(Clone, Copy)]
 pub struct Rehearsed {
     pub answer: Answer,
     pub len: usize,
@@ -36,7 +37,7 @@ fn put(out: &mut [u8], at: usize, text: &[u8])
     requires { at + length text.now ≤ length out.old }
     ensures { out.new ≡ over at text.now out.old }
 {
-    bytes::copy(text, &mut out[at..]);
+    octets::copy(text, &mut out[at..]);
 }
 
 // What an event answers: `answer`, `sent` and `given_up` are the AP's part, and `held` is HELD of a who.

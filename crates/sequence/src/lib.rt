@@ -1,4 +1,5 @@
 // Sequence numbers: which of two is newer, across the wrap at 4096.
+#![tactic(auto)]
 ghost use Rattle.std.specs.Prelude.{◌≡◌};
 ghost use Rattle.sequence.specs.Distance.{newer_of};
 

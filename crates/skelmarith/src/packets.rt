@@ -7,7 +7,7 @@ use packet::Packet;
 
 // What reading a packet finds, in numbers. The context block is the part of the packet from octet `start` on, of `len` octets.
 #[repr(C)]
-#[derive(Drop)]
+#[derive(Clone, Copy)]
 pub struct Reading {
     pub answer: u8,
     pub command: u8,
@@ -21,7 +21,7 @@ pub struct Reading {
 
 // An answer, and how many octets were written: 0 where it refuses.
 #[repr(C)]
-#[derive(Drop)]
+#[derive(Clone, Copy)]
 pub struct Written {
     pub answer: u8,
     pub len: usize,

@@ -1,4 +1,5 @@
 // Stations: six-octet MAC addresses.
+#![tactic(auto)]
 ghost use Rattle.std.specs.Prelude.{◌≡◌};
 ghost use Rattle.machine.specs.Stations.{same};
 

@@ -7,11 +7,12 @@
 //     FILE cannot be read
 //     FILE is too long                         it fills the buffer
 //     a name is empty or too long
+#![tactic(auto)]
 ghost use Rattle.std.specs.Prelude.{◌≡◌, true, ℕ, ◌+◌, ◌<◌, ◌≤◌, length, get_or};
 ghost use Rattle.script.specs.Script.{output_of};
 
 // What was read of a file: whether it could be read, and how many octets.
-#[derive(Drop)]
+#[derive(Clone, Copy)]
 struct Got {
     good: bool,
     len: usize,
@@ -22,7 +23,7 @@ fn put(line: &mut [u8], at: usize, text: &[u8]) -> usize
     requires { at + length text.now ≤ length line.old }
     ensures { result ≡ at + length text.now }
 {
-    bytes::copy(text, &mut line[at..]);
+    octets::copy(text, &mut line[at..]);
     at + text.len()
 }
 

@@ -1,4 +1,5 @@
 // The writer of packets: fills the front of a lent buffer, leaves the rest, and returns the length.
+#![tactic(auto)]
 ghost use Rattle.std.specs.Prelude.{◌≡◌, []};
 ghost use Rattle.packet.specs.Fields.{fields_of};
 ghost use Rattle.writer.specs.Write.{front_of, writing_of, write_to};
@@ -7,7 +8,7 @@ use answers::Answer;
 use packet::{Command, Packet};
 
 // What the writer answers: the number of octets written, 0 where it refuses.
-#[derive(Drop)]
+#[derive(Clone, Copy)]
 pub struct Written {
     pub answer: Answer,
     pub len: usize,
@@ -64,7 +65,7 @@ fn write_add(identifier: u16, station: [u8; 6], sequence: u16, buffer: &mut [u8]
         return refused(Answer::BufferTooShort);
     }
     let octets = front(0, 0, identifier, 16, station, sequence, 0);
-    bytes::copy(&octets[..16], buffer);
+    octets::copy(&octets[..16], buffer);
     Written {
         answer: Answer::Accepted,
         len: 16,
@@ -105,8 +106,8 @@ fn write_move(
         sequence,
         n as u16,
     );
-    bytes::copy(&octets, buffer);
-    bytes::copy(context, &mut buffer[18..]);
+    octets::copy(&octets, buffer);
+    octets::copy(context, &mut buffer[18..]);
     Written {
         answer: Answer::Accepted,
         len: 18 + n,
