@@ -119,11 +119,13 @@ latest_known b m (j ∷ js) e =
     by_cond (λ o. o ≡ some m → Known m (j ∷ js)) (eqb b j.at) (λ q x. inl (some_inj x refl)) (λ q x. inr (latest_known b m js x)) e
 
 pub known_older : (n k : ℕ) (J : List Join) → NewerThanAll n J → Known k J → newer_of n k ≡ true
+known_older n k [] h x'' = elim x'' [ ]
 known_older n k (j ∷ js) h (inl e) = rw e h.0
 known_older n k (j ∷ js) h (inr r) = known_older n k js h.1 r
 
 -- no number of a join is newer than the latest
 pub last_newest : (n k : ℕ) (J : List Join) → InOrder J → Last n J → Known k J → newer_of k n ≡ false
+last_newest n k [] h e _ = elim e [ ]
 last_newest n k (j ∷ js) h e (inl q) = rw (e, q) (newer_irrefl j.sequence)
 last_newest n k (j ∷ js) h e (inr r) = rw e (newer_asym j.sequence k (known_older j.sequence k js h.0 r))
 
@@ -132,14 +134,17 @@ fresh_number n k J h r e = not_both (rw e at (known_older n k J h r)) (newer_irr
 
 latest_last : (n b : ℕ) (J : List Join) → LastAt n b J → latest b J ≡ some n
 unfolding latest
+latest_last n b [] h = elim h [ ]
 latest_last n b (j ∷ js) h = by_cond (λ o. o ≡ some n) (eqb b j.at) (λ e. rw h.0) (λ e. absurd (eqb-false b j.at e h.1))
 
 pub last_row : (n b m : ℕ) (J : List Join) → LastAt n b J → latest b J ≡ some m → Last m J
+last_row n b m [] h e = elim h [ ]
 last_row n b m (j ∷ js) h e = some_inj e (latest_last n b (j ∷ js) h) ∙ h.0
 
 -- a number that is not newer than that of the latest join at b, and did not come from the latest join for b, has been passed
 pub stale_passed : (n m b : ℕ) (J : List Join) → InOrder J → latest b J ≡ some m → newer_of n m ≡ false → ¬ LastAt n b J → ¬ Last n J
 unfolding latest
+stale_passed n m b [] h e o k q = elim q [ ]
 stale_passed n m b (j ∷ js) h e o k q =
     by_cond (λ (x : Option ℕ). x ≡ some m → ⊥) (eqb b j.at) (λ y z. k (q, eqb-true b j.at y))
     (λ y z. not_both (rw (← q) at (known_older j.sequence m js h.0 (latest_known b m js z))) o) e
@@ -366,4 +371,4 @@ module _ {s : Station} {J : List Join} {G : ℕ → Bool} {L : GivenUp} where
   unfolding send_all
   inv_send_all from [] nil nil v = v
   inv_send_all {f} from (x ∷ xs) (cons w ws) (cons h hs) v =
-      inv_send_all from xs ws (subst (λ (R : View). All (OutgoingOk s J R from) xs) (sym (send_rows s from x f)) hs) (inv_send from x w v h)
+      inv_send_all {f = send from x f} from xs ws (subst (λ (R : View). All (OutgoingOk s J R from) xs) (sym (send_rows s from x f)) hs) (inv_send from x w v h)

@@ -287,11 +287,13 @@ total_at g (a ∷ more) zero = omega arith
 total_at g (a ∷ more) (suc b) = omega (arith, total_at g more b)
 
 holds_known : (R : Station → ℕ → ℕ → Bool) (s : Station) (n o p : ℕ) (ms : List Open) → All (Known R) ms → Holds s n o p ms → R s o p ≡ true
+holds_known R s n o p [] _ x3 = elim x3 [ ]
 holds_known R s n o p (m ∷ ms) (cons k ks) (inl h) = rw (h.station, h.old, h.name) at k
 holds_known R s n o p (m ∷ ms) (cons k ks) (inr h) = holds_known R s n o p ms ks h
 
 holds_named : (s : Station) (n o p : ℕ) (ms : List Open) → Holds s n o p ms → 1 ≤ total (named p) ms
 unfolding total named
+holds_named s n o p [] x' = elim x' [ ]
 holds_named s n o p (m ∷ ms) (inl h) = rw (eq-eqb p m.name (sym h.name)) (omega arith)
 holds_named s n o p (m ∷ ms) (inr h) = omega (arith, holds_named s n o p ms h)
 

@@ -65,6 +65,7 @@ agrees_answers from p m e =
 -- a move that an answer closes is one that it answers
 close_holds : (from : ℕ) (p : Packet) (s : Station) (n o i : ℕ) (ms : List Open) → Holds s n o i ms → Holds s n o i (close from p ms) ⊎ Answers from p s n o
 unfolding close
+close_holds from p s n o i [] x' = elim x' [ ]
 close_holds from p s n o i (m ∷ ms) (inl h) =
     by_cond (λ (l : List Open). Holds s n o i l ⊎ Answers from p s n o) (agrees from p m.move)
     (λ q. let a = agrees_answers from p m q in inr (a.0 ∙ h.station, a.1 ∙ h.sequence, a.2 ∙ h.old)) (λ q. inl (inl h))
@@ -217,6 +218,7 @@ is_move_lem s n o p m h = rw (same_of_eq s m.move.station (sym h.station), eq-eq
 -- a move that a tick does not keep is given up
 tick_holds : (s : Station) (n o p t : ℕ) (ms : List Open) → Holds s n o p ms → Holds s n o p (kept t ms) ⊎ (move_among s o p (lapsed t ms) ≡ true)
 unfolding kept lapsed kept_from lapsed_by timed move_among
+tick_holds s n o p t [] x' = elim x' [ ]
 tick_holds s n o p t (m ∷ ms) (inl h) =
     by_fate (λ (x : Fate). Holds s n o p (kept_from x (kept t ms)) ⊎ (move_among s o p (lapsed_by x m (lapsed t ms)) ≡ true)) t m
     (λ k. inl (inl (record { station = h.station; sequence = h.sequence; old = h.old; name = h.name })))
@@ -296,6 +298,7 @@ unfolding sequence_of new_point
 row_out s f b h = rw (point_out f b h)
 
 holds_left : (s : Station) (n o p : ℕ) (ms ns : List Open) → Holds s n o p ms → Holds s n o p (ms ++ ns)
+holds_left s n o p [] ns x' = elim x' [ ]
 holds_left s n o p (m ∷ ms) ns (inl h) = inl h
 holds_left s n o p (m ∷ ms) ns (inr h) = inr (holds_left s n o p ms ns h)
 

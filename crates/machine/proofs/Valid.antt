@@ -89,7 +89,7 @@ module _ {C : Type 0} {n : ℕ} {f : Network} (v : Valid C n f) where
 valid_send_all : {C : Type 0} {n : ℕ} {f : Network} (from : ℕ) (xs : List Outgoing) → from < n → All (OutgoingIn n) xs → Valid C n f → Valid C n (send_all from xs f)
 unfolding send_all
 valid_send_all from [] l nil v = v
-valid_send_all from (x ∷ xs) l (cons h hs) v = valid_send_all from xs l hs (valid_send v from x l h)
+valid_send_all {f = f} from (x ∷ xs) l (cons h hs) v = valid_send_all {f = send from x f} from xs l hs (valid_send v from x l h)
 
 module _ {C : Type 0} {n : ℕ} where
   -- an access point acts
