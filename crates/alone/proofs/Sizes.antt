@@ -77,9 +77,9 @@ module _ (o : Outbox) (n : length o.items ≡ 8) (ss : All Slots o.items) where
 pub action_packed : (x : Action) (vs : List Val) → Is (row A.the_type) x vs → (ts : List Test) (b : ℕ) (a : AccessPoint) (y : machine.Action) → done_of x ≡ decided ts b a y → Packed x.sent
 action_packed x vs g ts b a y e =
     let p = g.1.1.1.0.1.1.0 in
-    packed_by x.sent (simp length-map at p.1.0.1) (each_all _ _ (F.the_type).to x.sent.items p.0 (λ p u h. simp length-map at h.1.1.1.1.1.0.1.0.1) p.1.1) ts b a y (ap (λ (d : Done). d.sent) e)
+    packed_by x.sent (p.1.0.1) (each_all (F.the_row).own_val x.sent.items p.0 (λ p u h. h.1.1.1.1.1.0.1.0.1) p.1.1) ts b a y (ap (λ (d : Done). d.sent) e)
 
 pub join_packed : (x : Joining) (vs : List Val) → Is (row J.the_type) x vs → (ts : List Test) (b : ℕ) (a : AccessPoint) (y : machine.Action) → joining_of a x ≡ decided ts b a y → Packed x.sent
 join_packed x vs g ts b a y e =
     let p = g.1.1.1.1.0.1.1.0 in
-    packed_by x.sent (simp length-map at p.1.0.1) (each_all _ _ (F.the_type).to x.sent.items p.0 (λ p u h. simp length-map at h.1.1.1.1.1.0.1.0.1) p.1.1) ts b a y (ap (λ (d : Done). d.sent) e)
+    packed_by x.sent (p.1.0.1) (each_all (F.the_row).own_val x.sent.items p.0 (λ p u h. h.1.1.1.1.1.0.1.0.1) p.1.1) ts b a y (ap (λ (d : Done). d.sent) e)

@@ -33,7 +33,7 @@ past = record { station = []; sequence = 0; context_len = 0; context = [] }
 
 -- a table has 16 slots, as its type says
 pub slots : (t : Associations) (vs : List Val) → Is (row table.the_type) t vs → length t.items ≡ 16
-slots t vs g = simp length-map at g.1.1.0.1.0.1
+slots t vs g = g.1.1.0.1.0.1
 
 -- the first n elements, from i on
 module _ {A : Type 0} (d : A) (n : ℕ) (xs : List A) (i : ℕ) (l : n ≤ length xs) where

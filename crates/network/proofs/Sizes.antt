@@ -16,18 +16,18 @@ use Rattle.network.specs.declared.Network.{Network}
 use Rattle.network.proofs.Lent.{Sized}
 
 -- what the type says of each element of an array
-pub each_all : {X : Type 0} {P : X → Type 0} (d : Type 0) (own : d → List Val → Fml) (to : X → d) (xs : List X) (us : List Val)
-    → ((x : X) (u : Val) → shadow (own (to x) (u ∷ [])) → P x) → shadow (each d own (map to xs) us) → All P xs
-each_all d own to [] us h s = nil
-each_all d own to (x ∷ xs) [] h s = absurd s
-each_all d own to (x ∷ xs) (u ∷ us) h s = cons (h x u s.0) (each_all d own to xs us h s.1)
+pub each_all : {X : Type 0} {P : X → Type 0} (own : X → List Val → Fml) (xs : List X) (us : List Val)
+    → ((x : X) (u : Val) → shadow (own x (u ∷ [])) → P x) → shadow (each X own xs us) → All P xs
+each_all own [] us h s = nil
+each_all own (x ∷ xs) [] h s = absurd s
+each_all own (x ∷ xs) (u ∷ us) h s = cons (h x u s.0) (each_all own xs us h s.1)
 
 module _ (w : Network) (vs : List Val) (g : Is (row N.the_type) w vs) where
   pub sized : Sized w
   sized =
       let a = g.1.1.1.1.1.0 in
       record {
-        points = simp length-map at a.1.0.1;
-        each = each_all _ _ (A.the_type).to w.points a.0 (λ x u s. record { associations = association_slots x (u ∷ []) s; moves = move_slots x (u ∷ []) s }) a.1.1;
-        air = simp length-map at g.1.1.1.1.1.1.0.1.1.0.1.0.1;
+        points = a.1.0.1;
+        each = each_all (A.the_row).own_val w.points a.0 (λ x u s. record { associations = association_slots x (u ∷ []) s; moves = move_slots x (u ∷ []) s }) a.1.1;
+        air = g.1.1.1.1.1.1.0.1.1.0.1.0.1;
       }

@@ -32,7 +32,7 @@ use Rattle.network.proofs.LensLaws.{NetworkFits}
 use Rattle.network.proofs.Lent.{valid_fits, event_kept}
 use Rattle.network.proofs.Sizes.{each_all, sized}
 
-all_through : {X Y : Type 0} {P : Y → Type 0} {xs : List X} (f : X → Y) → All (λ (x : X). P (f x)) xs → All P (map f xs)
+all_through : {X Y : Type 0} {P : Y → Type 0} (f : X → Y) {xs : List X} → All (λ (x : X). P (f x)) xs → All P (map f xs)
 all_through f nil = nil
 all_through f (cons h hs) = cons h (all_through f hs)
 
@@ -46,9 +46,9 @@ association_typed r u g =
     let s = g.1.1.0 in
     let c = g.1.1.1.1.1.0 in
     record {
-      station = record { size = simp length-map at s.1.0.1; octets = each_all _ _ (λ v. v) r.station s.0 octet s.1.1 };
-      size = simp length-map at c.1.0.1;
-      octets = each_all _ _ (λ v. v) r.context c.0 octet c.1.1;
+      station = record { size = s.1.0.1; octets = each_all (builtin.u8).own_val r.station s.0 octet s.1.1 };
+      size = c.1.0.1;
+      octets = each_all (builtin.u8).own_val r.context c.0 octet c.1.1;
     }
 
 move_typed : (m : Move) (u : Val) → Is (row M.the_type) m (u ∷ []) → MoveTyped (named m)
@@ -57,14 +57,14 @@ move_typed m u g =
     let s = g.1.1.0 in
     let i : m.identifier < 65536 = g.1.1.1.1.1.0.1 in
     record {
-      station = record { size = simp length-map at s.1.0.1; octets = each_all _ _ (λ v. v) m.station s.0 octet s.1.1 };
+      station = record { size = s.1.0.1; octets = each_all (builtin.u8).own_val m.station s.0 octet s.1.1 };
       identifier = omega arith;
     }
 
 in_flight_typed : (p : InFlight) (u : Val) → Is (row F.the_type) p (u ∷ []) → InFlightTyped p
 in_flight_typed p u g =
     let o = g.1.1.1.1.1.0 in
-    record { size = simp length-map at o.1.0.1; octets = each_all _ _ (λ v. v) p.octets o.0 octet o.1.1 }
+    record { size = o.1.0.1; octets = each_all (builtin.u8).own_val p.octets o.0 octet o.1.1 }
 
 -- an access point and the network
 
@@ -75,8 +75,8 @@ point_typed a u g =
     let m = g.1.1.1.0.1.1.0 in
     let i : a.next_identifier < 65536 = g.1.1.1.1.0.1 in
     record {
-      associations = all_take a.associations.count (each_all _ _ (R.the_type).to a.associations.items r.0 association_typed r.1.1);
-      moves = all_through named (all_take a.moves.count (each_all _ _ (M.the_type).to a.moves.items m.0 move_typed m.1.1));
+      associations = all_take a.associations.count (each_all (R.the_row).own_val a.associations.items r.0 association_typed r.1.1);
+      moves = all_through named (all_take a.moves.count (each_all (M.the_row).own_val a.moves.items m.0 move_typed m.1.1));
       next = omega arith;
     }
 
@@ -87,8 +87,8 @@ module _ (w : Network) (vs : List Val) (g : Is (row N.the_type) w vs) where
       let a = g.1.1.1.1.1.0 in
       let f = g.1.1.1.1.1.1.0.1.1.0 in
       record {
-        points = all_through get_point (all_take w.ap_count (each_all _ _ (A.the_type).to w.points a.0 point_typed a.1.1));
-        air = all_take w.in_flight.count (each_all _ _ (F.the_type).to w.in_flight.items f.0 in_flight_typed f.1.1);
+        points = all_through get_point (all_take w.ap_count (each_all (A.the_row).own_val w.points a.0 point_typed a.1.1));
+        air = all_take w.in_flight.count (each_all (F.the_row).own_val w.in_flight.items f.0 in_flight_typed f.1.1);
       }
 
   pub fits : valid_network_record w ≡ true → NetworkFits w

@@ -14,10 +14,10 @@ use Rattle.record.proofs.LensLaws.{Fits}
 
 module _ (a : AccessPoint) (vs : List Val) (g : Is (row A.the_type) a vs) where
   pub association_slots : length a.associations.items ≡ 16
-  association_slots = simp length-map at g.1.1.0.1.1.0.1.0.1
+  association_slots = g.1.1.0.1.1.0.1.0.1
 
   pub move_slots : length a.moves.items ≡ 8
-  move_slots = simp length-map at g.1.1.1.0.1.1.0.1.0.1
+  move_slots = g.1.1.1.0.1.1.0.1.0.1
 
   pub fits : Usable a → Fits a
   fits u = record { associations = omega (arith, association_slots, u.associations); moves = omega (arith, move_slots, u.moves) }
