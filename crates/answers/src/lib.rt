@@ -1,5 +1,6 @@
 // What a call answers, and document 01's number for it.
 #![tactic(auto)]
+
 ghost use Rattle.std.specs.Prelude.{◌≡◌};
 ghost use Rattle.answers.specs.Numbers.{number_of};
 

@@ -8,7 +8,7 @@ use native.Mathlib.Numerals.{add-one}
 use native.Mathlib.Nat.{add-zero}
 use native.Mathlib.Omega.{arith}
 use borrow.Author.Tests.{le-leb, lt-leb}
-use lib.ListN.{length, take, drop, get_or, set, replicate, take-append-drop, drop_of_length-le, length-set, length-map}
+use lib.ListN.{length, take, drop, get_or, set, replicate, take-append-drop, drop_of_length-le, length-set}
 use lib.Seq.{drop-cons, length-take-le, take_all, take-length, set_split, set-append_left}
 use mir.Val.{Val}
 use denote.Laws.{Is}

@@ -1,5 +1,6 @@
 // The table of one access point. Document 01: its rows, "in order of arrival".
 #![tactic(auto)]
+
 ghost use Rattle.std.specs.Prelude.{◌≡◌, ◌&&◌, ◌≤◌, ◌<◌, leb, length};
 ghost use Rattle.lists.specs.Places.{without, every};
 ghost use Rattle.lists.specs.Search.{index_by, placed};

@@ -1,6 +1,7 @@
 // The floor's events, taken apart. Whoever holds a network asks here which packet and which access point an event is about, what that does,
 // and what is then in flight, and stores the two: nothing else of the network changes, and nothing else is copied.
 #![tactic(auto)]
+
 ghost use Rattle.std.specs.Prelude.{◌≡◌, true, cond, map, ◌+◌, ◌*◌, ◌≤◌, ◌<◌, ltb, take};
 ghost use Rattle.lists.specs.Places.{every, All};
 ghost use Rattle.machine.specs.Packets.{readable, octets_in};

@@ -1,6 +1,7 @@
 // What the rules of one access point read and change of its record: the row of one station, and everything but the other rows. The
 // rules are handed this and hand it back, and not the whole table; then it is put back into the record, in one place.
 #![tactic(auto)]
+
 ghost use Rattle.std.specs.Prelude.{◌≡◌, ◌≤◌, ◌<◌, get_or};
 ghost use Rattle.record.specs.Slots.{no_association};
 ghost use Rattle.record.specs.Lens.{get_associations};

@@ -1,5 +1,6 @@
 // The packets in flight between access points. Document 01: the air, "up to 64 packets in order of sending".
 #![tactic(auto)]
+
 ghost use Rattle.std.specs.Prelude.{◌≡◌, ◌&&◌, ◌≤◌, ◌<◌, leb};
 ghost use Rattle.lists.specs.Places.{without, every};
 ghost use Rattle.machine.specs.Valid.{valid_in_flight};

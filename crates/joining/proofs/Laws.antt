@@ -17,7 +17,6 @@ use Rattle.machine.specs.Associations.{Context, given, association, held_context
 use Rattle.machine.specs.Moves.{Open, counts_after, counted, new_move, notice_of}
 use Rattle.machine.specs.Moves as happenings
 use Rattle.machine.specs.AccessPoint.{with_associations, with_moves, use_identifier, quietly, another, this, nowhere, origin_of, needs_move, join_tests, joined, join_from}
-use Rattle.record.specs.declared.Associations.{Associations}
 use Rattle.record.specs.declared.Moves.{Moves}
 use Rattle.record.specs.declared.AccessPoint.{AccessPoint}
 use Rattle.record.specs.Lens.{get_associations, put_associations, get_moves, put_moves, named, bare, get_point, put_point}

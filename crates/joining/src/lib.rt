@@ -1,5 +1,6 @@
 // A station joins one access point: the AP's own refusals 15, 16 and 17, its record afterwards, and what it sends.
 #![tactic(auto)]
+
 ghost use Rattle.std.specs.Prelude.{◌≡◌, ◌<◌, ◌≤◌, [], length};
 ghost use Rattle.lists.specs.Table.{first_of};
 ghost use Rattle.answers.specs.Numbers.{number_of};

@@ -1,5 +1,6 @@
 // The open moves of one access point: found, closed, opened, tested, and what a tick does to them.
 #![tactic(auto)]
+
 ghost use Rattle.std.specs.Prelude.{◌≡◌, true, ◌&&◌, map, ◌++◌, [], ◌∷◌, ◌≤◌, ◌<◌, leb, length};
 ghost use Rattle.lists.specs.Places.{without, every};
 ghost use Rattle.lists.specs.Search.{index_by};

@@ -1,7 +1,6 @@
 -- The arrays of a network's record have their sizes, as its type says.
 -- Assumes nothing.
-use mathlib.Core.List.{List, [], ◌∷◌, map}
-use lib.ListN.{length-map}
+use mathlib.Core.List.{List, [], ◌∷◌}
 use mir.Val.{Val}
 use base.Fml.{Fml}
 use denote.Array.{each}

@@ -1,5 +1,6 @@
 // The record of a network, by value: its access points and the packets in flight, with their used lengths.
 #![tactic(auto)]
+
 use elements::InFlight;
 use record::AccessPoint;
 

@@ -1,5 +1,6 @@
 // Packets of the Inter-Access Point Protocol: their commands and fields. Where each field stands is in specs/Layout.antt.
 #![tactic(auto)]
+
 ghost use Rattle.std.specs.Prelude.{◌≡◌};
 ghost use Rattle.packet.specs.Fields.{octet_of};
 

@@ -1,6 +1,7 @@
 // The reader of packets: the refusals first, the header's and then those of the data, the part that begins at octet 6; then the
 // fields of an accepted packet.
 #![tactic(auto)]
+
 ghost use Rattle.std.specs.Prelude.{◌≡◌, ◌+◌, ◌≤◌, ◌<◌, length, take, drop};
 ghost use Rattle.lists.specs.Table.{first_of, accepts};
 ghost use Rattle.answers.specs.Numbers.{number_of};

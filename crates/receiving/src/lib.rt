@@ -1,6 +1,7 @@
 // One access point receives a packet, or a station leaves it: the excerpt of its record afterwards, and its answer if it gives one.
 // What is proved holds for every record that the excerpt is of, once the result is put back into it.
 #![tactic(auto)]
+
 ghost use Rattle.std.specs.Prelude.{◌≡◌, ◌≤◌, length};
 ghost use Rattle.reader.specs.Read.{reading_of};
 ghost use Rattle.machine.specs.Stations.{Station};

@@ -6,7 +6,7 @@ use native.Mathlib.Omega.{arith}
 use denote.Laws.{Is}
 use denote.Struct.Declared.{row}
 use mir.Val.{Val}
-use lib.ListN.{length, length-map}
+use lib.ListN.{length}
 use Rattle.record.specs.contracts.AccessPoint as A
 use Rattle.record.specs.declared.AccessPoint.{AccessPoint}
 use Rattle.record.specs.Valid.{Usable}

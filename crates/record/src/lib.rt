@@ -1,5 +1,6 @@
 // The record of one access point, by value: arrays of associations and moves with their used lengths.
 #![tactic(auto)]
+
 use elements::{Association, Move};
 
 // Document 01: an AP's table, its rows in order of arrival.

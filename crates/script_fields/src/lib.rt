@@ -1,5 +1,6 @@
 // The fields of a script's lines: names, numbers, stations and contexts, each read from its own octets.
 #![tactic(auto)]
+
 ghost use Rattle.std.specs.Prelude.{◌≡◌, true, ◌+◌, ◌*◌, ◌≤◌, ◌<◌, length, get_or, replicate};
 ghost use Rattle.std.proofs.Math.Option.{none, some};
 ghost use Rattle.lists.specs.Places.{every};

@@ -1,5 +1,6 @@
 // The lines that the floor rehearsal prints, written at the front of a lent array, whose rest stays. Each function returns the length.
 #![tactic(auto)]
+
 ghost use Rattle.std.specs.Prelude.{◌≡◌, ◌+◌, ◌≤◌, length};
 ghost use Rattle.script.specs.Put.{over, front};
 ghost use Rattle.script.specs.Fields.{digit};

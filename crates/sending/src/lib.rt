@@ -1,5 +1,6 @@
 // What an access point sends: its packets written for the way, in order of sending.
 #![tactic(auto)]
+
 ghost use Rattle.std.specs.Prelude.{◌≡◌, true, [], ◌∷◌, map, ◌≤◌, take};
 ghost use Rattle.lists.specs.Places.{every};
 ghost use Rattle.machine.specs.Moves.{notices_of};

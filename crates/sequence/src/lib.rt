@@ -1,5 +1,6 @@
 // Sequence numbers: which of two is newer, across the wrap at 4096.
 #![tactic(auto)]
+
 ghost use Rattle.std.specs.Prelude.{◌≡◌};
 ghost use Rattle.sequence.specs.Distance.{newer_of};
 

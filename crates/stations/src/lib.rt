@@ -1,5 +1,6 @@
 // Stations: six-octet MAC addresses.
 #![tactic(auto)]
+
 ghost use Rattle.std.specs.Prelude.{◌≡◌};
 ghost use Rattle.machine.specs.Stations.{same};
 

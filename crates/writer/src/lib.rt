@@ -1,5 +1,6 @@
 // The writer of packets: fills the front of a lent buffer, leaves the rest, and returns the length.
 #![tactic(auto)]
+
 ghost use Rattle.std.specs.Prelude.{◌≡◌, []};
 ghost use Rattle.packet.specs.Fields.{fields_of};
 ghost use Rattle.writer.specs.Write.{front_of, writing_of, write_to};

@@ -2,7 +2,6 @@
 -- Assumes nothing.
 use borrow.Author.Tests.{eq-eqb, ne_eqb}
 use native.Mathlib.Omega.{arith}
-use mathlib.Core.Logic.{⊎_elim}
 use Rattle.lists.proofs.Fronts.{rest_from}
 use Rattle.reader.proofs.Steps.{tests_ok, packet_taken, data_room, move_room, octet_back}
 use Rattle.reader.proofs.fields.Goals as goal
@@ -37,6 +36,6 @@ returns c =
     let h = tests_ok _ c.requires in
     rw (packet_taken _ h, c.command_of.ensures, octet_back _ h.header.command, c.number_at-identifier.ensures, c.station_at-station.ensures, c.number_at-sequence.ensures, c.status_at-status.ensures, rest_from _ 6)
     (elim c.if-octet-ne0.branch [
-      then-octet-ne0 w ↦ rw (w.start-is, w.len-is, w.number_at-len.ensures, rest_from _ 6, ne_eqb _ 0 w.if-octet-ne0.true)
+      | then-octet-ne0 w ↦ rw (w.start-is, w.len-is, w.number_at-len.ensures, rest_from _ 6, ne_eqb _ 0 w.if-octet-ne0.true)
       | else-octet-ne0 w ↦ rw (w.start-is, w.len-is, eq-eqb _ 0 w.if-octet-ne0.false)
     ])
