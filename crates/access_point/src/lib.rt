@@ -1,5 +1,6 @@
 // One access point's record as a whole: whether 14 applies to it, a tick, and the call for outside bytes.
 #![tactic(auto)]
+
 ghost use Rattle.std.specs.Prelude.{◌≡◌, ◌≤◌, length};
 ghost use Rattle.answers.specs.declared.Answer.TheVariants.{Accepted};
 ghost use Rattle.reader.specs.Read.{reading_of};

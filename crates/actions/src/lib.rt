@@ -1,5 +1,6 @@
 // What an access point does at an event: its answer, its record afterwards, and its packets, written and in order of sending.
 #![tactic(auto)]
+
 ghost use Rattle.std.specs.Prelude.{◌≡◌, true, [], map, ◌≤◌, ◌<◌};
 ghost use Rattle.answers.specs.Numbers.{number_of};
 ghost use Rattle.machine.specs.Stations.{is_group};

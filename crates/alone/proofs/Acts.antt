@@ -13,7 +13,7 @@ use Rattle.lists.specs.Search.{index_by}
 use Rattle.lists.proofs.Tables.{refusing, in_parts}
 use Rattle.machine.specs.Stations.{Station, is_group}
 use Rattle.machine.specs.Associations.{padded}
-use Rattle.machine.specs.Packets.{Outgoing, written, carried}
+use Rattle.machine.specs.Packets.{Outgoing, carried}
 use Rattle.machine.specs.AccessPoint as machine
 use Rattle.machine.specs.AccessPoint.{quietly, origin_of, join_tests, join_from, leave_by, tick_by}
 use Rattle.machine.specs.Events.{group_address, holds}

@@ -7,7 +7,7 @@ use native.Mathlib.Omega.{arith}
 use denote.Laws.{Is}
 use denote.Struct.Declared.{row}
 use mir.Val.{Val}
-use lib.ListN.{length, take, replicate, length-map, length-append}
+use lib.ListN.{length, take, replicate, length-append}
 use lib.Seq.{take-append_seam}
 use Rattle.lists.specs.Table.{Test, first_of, accepts}
 use Rattle.lists.specs.Places.{All, nil, cons}

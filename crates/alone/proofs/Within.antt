@@ -5,18 +5,27 @@ use mathlib.Core.Path.{◌≡◌, refl}
 use mathlib.Core.Bool.{true}
 use mathlib.Core.List.{List, [], ◌∷◌, map}
 use borrow.Author.Tests.{ltb-true}
+use denote.Laws.{Is}
+use denote.Struct.Declared.{row}
 use lib.Dec.{ltb, leb}
 use lib.ListN.{length}
+use mir.Val.{Val}
 use Rattle.lists.specs.Places.{every}
 use Rattle.lists.proofs.Choices.{and_left, and_right, and_true}
 use Rattle.elements.specs.declared.Move.{Move}
+use Rattle.machine.specs.Stations.{Station}
 use Rattle.machine.specs.Valid.{valid_association, distinct, valid_move, valid_point, valid_setup}
 use Rattle.machine.specs.Lone.{valid_lone}
 use Rattle.machine.proofs.Valid.{setup_in}
+use Rattle.record.specs.contracts.AccessPoint as A
 use Rattle.record.specs.declared.AccessPoint.{AccessPoint}
 use Rattle.record.specs.declared.LoneAccessPoint.{LoneAccessPoint}
 use Rattle.record.specs.Lens.{get_associations, get_moves, named, get_point, get_lone}
 use Rattle.record.specs.Valid.{valid_record, valid_lone_record}
+use Rattle.record.proofs.Sizes.{fits}
+use Rattle.access_point.proofs.Outsides.{usable}
+use Rattle.excerpt.specs.declared.Excerpt.{Excerpt}
+use Rattle.excerpt.specs.Excerpts.{Seen, excerpt_of}
 use Rattle.sending.specs.Sends.{sequence_within}
 
 -- the sequence numbers of moves within their limits
@@ -64,3 +73,10 @@ module _ (l : LoneAccessPoint) (v : valid_lone_record l ≡ true) where
       let q = and_right (valid_setup l.ap_count l.timeout l.resend_limit) _ v in
       let p = and_right (leb l.point.moves.count 8) _ (and_right (leb l.point.associations.count 16) _ record_valid) in
       and_true _ _ setup_valid (and_true _ _ (and_left (ltb l.number l.ap_count) _ q) p)
+
+  -- an excerpt of its point is seen
+  pub seen : (vs : List Val) → Is (row A.the_type) l.point vs → (s : Station) (x : Excerpt) → x ≡ excerpt_of s l.point → Seen s l.point x
+  seen vs g s x e =
+      let u = usable l v in
+      let z = fits l.point vs g u in
+      record { usable = u; rows = z.associations; moves = z.moves; same = e }

@@ -1,6 +1,7 @@
 // One access point alone, its record by value: set-up, the events that it gives itself, and outside bytes. The packets that it sends are
 // written one after the other at the front of a lent buffer.
 #![tactic(auto)]
+
 ghost use Rattle.std.specs.Prelude.{◌≡◌, ◌≤◌, length};
 ghost use Rattle.answers.specs.Numbers.{number_of};
 ghost use Rattle.joining.specs.Join.{old_of};

@@ -1,5 +1,6 @@
 // The floor link: set-up and the seven events, on a network's record handed on by value.
 #![tactic(auto)]
+
 ghost use Rattle.std.specs.Prelude.{◌≡◌, true, false, [], replicate};
 ghost use Rattle.std.proofs.Math.Option.{none};
 ghost use Rattle.answers.specs.Numbers.{number_of};

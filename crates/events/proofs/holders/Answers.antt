@@ -1,6 +1,5 @@
 -- `events::holders` meets its contract. The loop's invariant: the mask is that of the access points from i on.
 -- Assumes nothing.
--- the array has a place for each access point
 use Prim.Native.Nat.{◌≤◌, ◌<◌, ◌-◌}
 use mathlib.Core.Path.{◌≡◌, refl, subst, ◌∙◌}
 use native.Mathlib.Omega.{arith}

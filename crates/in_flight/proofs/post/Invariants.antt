@@ -1,6 +1,5 @@
 -- `in_flight::post` meets its contract. The loop's invariant: the first i packets are put in flight.
 -- Assumes nothing.
--- 64 slots, and eight packets to be sent
 use Prim.Native.Nat.{◌≤◌, ◌-◌}
 use mathlib.Core.Path.{◌≡◌}
 use lib.ListN.{take}

@@ -1,6 +1,5 @@
 -- `in_flight::remove` meets its contract. The loop's invariant: the packets from k up to i are those that stood after them.
 -- Assumes nothing.
--- 64 slots
 use native.Mathlib.Omega.{arith}
 use Rattle.in_flight.proofs.Slots.{up_start, up_step, up_end}
 use Rattle.in_flight.proofs.remove.Goals as goal

@@ -1,6 +1,5 @@
 -- `in_flight::remove` meets its contract. The loop's invariant: the packets from k up to i are those that stood after them.
 -- Assumes nothing.
--- 64 slots
 use Prim.Native.Nat.{◌≤◌, ◌-◌}
 use mathlib.Core.Path.{◌≡◌}
 use Rattle.in_flight.proofs.Slots.{up_to}

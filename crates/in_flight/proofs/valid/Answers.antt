@@ -1,6 +1,5 @@
 -- `in_flight::valid` meets its contract. The loop's invariant: every packet is valid where every one from i on is.
 -- Assumes nothing.
--- the packet at i, and those after it
 use Prim.Native.Nat.{◌≤◌, ◌<◌, ◌+◌}
 use mathlib.Core.Path.{◌≡◌, refl, sym, ◌∙◌}
 use mathlib.Core.Bool.{◌&&◌}

@@ -1,6 +1,5 @@
 -- `in_flight::valid_packet` meets its contract, test by test; the last is the reader's, of the used octets.
 -- Assumes nothing.
--- a packet has 82 slots
 use Prim.Native.Nat.{◌<◌, ◌≤◌}
 use mathlib.Core.Path.{sym, ◌∙◌}
 use native.Mathlib.Omega.{arith}

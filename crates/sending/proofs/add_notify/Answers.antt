@@ -1,6 +1,5 @@
 -- `sending::add_notify` meets its contract: what is written are the octets of an ADD-notify.
 -- Assumes nothing.
--- a station has six octets
 use native.Mathlib.Omega.{arith}
 use Rattle.machine.specs.Packets.{fields_as}
 use Rattle.sending.specs.Sends.{add_packet}

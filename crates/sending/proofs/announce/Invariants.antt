@@ -1,7 +1,5 @@
 -- `sending::announce` meets its contract. The loop's invariant: the copies to the first i APs are in the outbox.
 -- Assumes nothing.
--- the packet that is announced
--- there is room for one more
 use Prim.Native.Nat.{◌≤◌, ◌-◌}
 use mathlib.Core.Path.{◌≡◌}
 use Rattle.machine.specs.Packets.{Packet, carried}

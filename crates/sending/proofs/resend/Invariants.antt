@@ -1,7 +1,5 @@
 -- `sending::resend` meets its contract. The loop's invariant: the notices of the first i moves are in the outbox.
 -- Assumes nothing.
--- the move that is read is one of those used
--- there are as many as are counted
 use Prim.Native.Nat.{◌≤◌, ◌-◌}
 use mathlib.Core.Path.{◌≡◌}
 use lib.ListN.{take}

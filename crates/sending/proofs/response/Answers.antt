@@ -1,6 +1,5 @@
 -- `sending::response` meets its contract: what is written are the octets of the answer.
 -- Assumes nothing.
--- a station has six octets
 use native.Mathlib.Omega.{arith}
 use lib.ListN.{take, length-take}
 use Rattle.machine.specs.Packets.{message_of}

@@ -1,0 +1,31 @@
+-- `actions::leave` meets its contract: each refusal is told by the tests before it; accepted, the association goes.
+-- Assumes nothing.
+use native.Mathlib.Omega.{arith}
+use mathlib.Core.Path.{◌≡◌, sym, ◌∙◌}
+use Rattle.excerpt.specs.Excerpts.{Seen}
+use Rattle.actions.specs.Done.{done_of, unchanged_by}
+use Rattle.actions.proofs.Laws.{leave_off, leave_group, leave_done}
+use Rattle.actions.proofs.leave.Goals as goal
+
+pub returns-then-ap_count-at : goal.returns-then-ap_count-at
+returns-then-ap_count-at c =
+    c.unchanged.ensures ∙ leave_off c.args.at c.args.ap_count c.args.station c.args.a c.if-ap_count-at.true
+
+pub returns-then-is_group : goal.returns-then-is_group
+returns-then-is_group c =
+    c.unchanged-then-is_group.ensures
+    ∙ leave_group c.args.at c.args.ap_count c.args.station c.args.a c.if-ap_count-at.false (sym c.is_group.ensures ∙ c.if-is_group.true)
+
+pub put_back-b-requires : goal.put_back-b-requires
+put_back-b-requires c =
+    let seen : Seen c.args.station c.args.a c.of-x.result =
+    record { usable = c.requires; rows = omega arith; moves = omega arith; same = c.of-x.ensures } in
+    (c.requires.associations, c.leave-y.ensures.allowed c.args.station c.args.a seen)
+
+pub returns : goal.returns
+returns c =
+    let seen : Seen c.args.station c.args.a c.of-x.result =
+    record { usable = c.requires; rows = omega arith; moves = omega arith; same = c.of-x.ensures } in
+    let e : done_of c.unchanged-2.result ≡ unchanged_by 0 c.put_back-b.result = c.unchanged-2.ensures in
+    e
+    ∙ leave_done c.args.at c.args.ap_count c.args.station c.args.a c.if-ap_count-at.false (sym c.is_group.ensures ∙ c.if-is_group.false) c.put_back-b.result (c.put_back-b.ensures ∙ c.leave-y.ensures.result_value c.args.station c.args.a seen)

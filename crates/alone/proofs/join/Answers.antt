@@ -1,0 +1,80 @@
+-- `alone::join` meets its contract: 14, or the action's answer with its packets written.
+-- Assumes nothing.
+use mathlib.Core.Path.{◌≡◌, sym, ap, ◌∙◌}
+use mathlib.Core.Bool.{true}
+use mathlib.Core.List.{List}
+use mathlib.Core.Option.{Option}
+use Prim.Native.Nat.{ℕ}
+use Rattle.machine.specs.Stations.{Station}
+use Rattle.record.specs.declared.AccessPoint.{AccessPoint}
+use Rattle.record.specs.declared.LoneAccessPoint.{LoneAccessPoint}
+use Rattle.record.specs.Valid.{valid_lone_record}
+use Rattle.access_point.proofs.Outsides.{usable}
+use Rattle.access_point.specs.Outside.{with_record}
+use Rattle.actions.specs.Done.{Done, joining_of, join_of}
+use Rattle.alone.specs.declared.Reply.{Reply}
+use Rattle.alone.specs.Told.{told_of, old_named, join_alone}
+use Rattle.alone.specs.Front.{Posted, posted_of, posted_into}
+use Rattle.alone.proofs.Sizes.{join_packed}
+use Rattle.alone.proofs.Within.{few_points, seen}
+use Rattle.alone.proofs.Acts.{tell, tell_done, tell_refused, not_valid, join_told}
+use Rattle.alone.proofs.join.Goals as goal
+
+-- what is told of it
+told : (l : LoneAccessPoint) → valid_lone_record l ≡ true → (s : Station) (n : ℕ) (old : Option ℕ) (c b : List ℕ) (d : Done)
+    → d ≡ join_of l.number l.ap_count l.timeout l.resend_limit s n old c l.point
+    → (p : Posted) → p ≡ posted_into d.answer d.sent d.given_up b → tell l d p ≡ join_alone l s n old c b
+told l v s n old c b d e p f = ap (tell l d) f ∙ join_told l v s n old c b d e
+
+pub returns-then-not-valid_lone : goal.returns-then-not-valid_lone
+unfolding join_alone
+returns-then-not-valid_lone c =
+    ap (λ (r : Reply). told_of (record { lone = c.args.lone; reply = r }) c.args.buffer.now) c.reply_with.ensures
+    ∙ not_valid c.args.lone _ _ c.args.buffer.now (sym c.valid_lone.ensures ∙ c.if-not-valid_lone.true)
+
+pub of-x-requires : goal.of-x-requires
+of-x-requires c = (usable c.args.lone (sym c.valid_lone.ensures ∙ c.if-not-valid_lone.false)).associations
+
+pub join_excerpt-j-requires : goal.join_excerpt-j-requires
+join_excerpt-j-requires c = few_points c.args.lone (sym c.valid_lone.ensures ∙ c.if-not-valid_lone.false)
+
+pub post-reply-requires : goal.post-reply-requires
+unfolding join_of
+post-reply-requires c =
+    let l = c.args.lone in
+    let v : valid_lone_record l ≡ true = sym c.valid_lone.ensures ∙ c.if-not-valid_lone.false in
+    join_packed c.join_excerpt-j.result _ c.join_excerpt-j.type_inv _ _ _ _
+    (c.join_excerpt-j.ensures.result_value l.point (seen l v _ c.well_formed.0.1.1.0 c.args.station.now c.of-x.result c.of-x.ensures))
+
+pub put_back-point-requires : goal.put_back-point-requires
+put_back-point-requires c =
+    let l = c.args.lone in
+    let v : valid_lone_record l ≡ true = sym c.valid_lone.ensures ∙ c.if-not-valid_lone.false in
+    ((usable l v).associations, c.join_excerpt-j.ensures.allowed l.point (seen l v _ c.well_formed.0.1.1.0 c.args.station.now c.of-x.result c.of-x.ensures))
+
+pub returns-then-reply-eq0 : goal.returns-then-reply-eq0
+returns-then-reply-eq0 c =
+    let a = c.args in
+    let l = a.lone in
+    let v : valid_lone_record l ≡ true = sym c.valid_lone.ensures ∙ c.if-not-valid_lone.false in
+    let d : Done = joining_of l.point c.join_excerpt-j.result in
+    let j : d ≡ join_of l.number l.ap_count l.timeout l.resend_limit a.station.now a.sequence (old_named a.old) a.context.now l.point =
+    c.join_excerpt-j.ensures.result_value l.point (seen l v _ c.well_formed.0.1.1.0 a.station.now c.of-x.result c.of-x.ensures)
+    ∙ ap (λ (o : Option ℕ). join_of l.number l.ap_count l.timeout l.resend_limit a.station.now a.sequence o a.context.now l.point) c.old_named.ensures in
+    let q : Posted = posted_of c.post-reply.result c.post-reply.new.buffer in
+    ap (λ (p : AccessPoint). told_of (record { lone = with_record p l; reply = q.reply }) q.buffer) c.put_back-point.ensures
+    ∙ tell_done l d q c.if-reply-eq0.true
+    ∙ told l v a.station.now a.sequence (old_named a.old) a.context.now a.buffer.now d j q c.post-reply.ensures
+
+pub returns-else-reply-eq0 : goal.returns-else-reply-eq0
+returns-else-reply-eq0 c =
+    let a = c.args in
+    let l = a.lone in
+    let v : valid_lone_record l ≡ true = sym c.valid_lone.ensures ∙ c.if-not-valid_lone.false in
+    let d : Done = joining_of l.point c.join_excerpt-j.result in
+    let j : d ≡ join_of l.number l.ap_count l.timeout l.resend_limit a.station.now a.sequence (old_named a.old) a.context.now l.point =
+    c.join_excerpt-j.ensures.result_value l.point (seen l v _ c.well_formed.0.1.1.0 a.station.now c.of-x.result c.of-x.ensures)
+    ∙ ap (λ (o : Option ℕ). join_of l.number l.ap_count l.timeout l.resend_limit a.station.now a.sequence o a.context.now l.point) c.old_named.ensures in
+    let q : Posted = posted_of c.post-reply.result c.post-reply.new.buffer in
+    tell_refused l d q c.if-reply-eq0.false
+    ∙ told l v a.station.now a.sequence (old_named a.old) a.context.now a.buffer.now d j q c.post-reply.ensures
