@@ -7,7 +7,7 @@ use mathlib.Core.List.{List, ◌++◌}
 use mathlib.Core.Option.{Option}
 use native.Mathlib.Omega.{arith}
 use lib.Dec.{ltb}
-use lib.ListN.{length, take, drop, length-take}
+use lib.ListN.{length, take, drop}
 use lib.Seq.{take_all, take-length, take-append_seam, length-take-le}
 use borrow.Author.Tests.{lt-ltb, ltb-true, ltb-false}
 use Rattle.lists.specs.Table.{accepts}
@@ -18,7 +18,7 @@ use Rattle.machine.specs.Events.{join, event_tests, refusal, quiet, step, unknow
 use Rattle.machine.proofs.Held.{step_refused}
 use Rattle.network.specs.declared.Network.{Network}
 use Rattle.network.specs.Lens.{get}
-use Rattle.network.specs.Events.{valid_network_record, Reply, reply_of, event_of, refused}
+use Rattle.network.specs.Events.{valid_network_record, reply_of, event_of, refused}
 
 -- of 65 octets, the first n are the first min n 65
 pub cut : (n : ℕ) (x : List ℕ) → length x ≡ 65 → take (min n 65) x ≡ take n x

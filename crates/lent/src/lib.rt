@@ -1,5 +1,6 @@
 // A network's calls as a caller that lends its record makes them: what is asked of it, by value, and what it answers, in numbers.
 #![tactic(auto)]
+
 ghost use Rattle.std.specs.Prelude.{◌≡◌, min, [], take};
 ghost use Rattle.std.proofs.Math.Option.{none};
 ghost use Rattle.machine.specs.Events as machine;
