@@ -1,37 +1,18 @@
 -- `script_writer::put_number` meets its contract: by the number of digits.
 -- Assumes nothing.
 use native.Mathlib.Omega.{arith}
-use lib.ListN.{length-set}
 use Rattle.script_writer.proofs.Numbers.{put_one, put_two, put_three}
 use Rattle.script_writer.proofs.put_number.Goals as goal
-
-pub bounds-line-at-then-n-lt10 : goal.bounds-line-at-then-n-lt10
-bounds-line-at-then-n-lt10 c = simp length-set (omega arith)
 
 pub returns-then-n-lt10 : goal.returns-then-n-lt10
 returns-then-n-lt10 c =
     let p = put_one c.args.at c.args.n c.args.line.now c.requires _ (omega arith) c.digit_of.ensures in
     record { value = p.0; line_after = p.1 }
 
-pub bounds-line-at-then-n-lt100 : goal.bounds-line-at-then-n-lt100
-bounds-line-at-then-n-lt100 c = simp length-set (omega arith)
-
-pub bounds-line-at-then-n-lt100-2 : goal.bounds-line-at-then-n-lt100-2
-bounds-line-at-then-n-lt100-2 c = simp length-set (omega arith)
-
 pub returns-then-n-lt100 : goal.returns-then-n-lt100
 returns-then-n-lt100 c =
     let p = put_two c.args.at c.args.n c.args.line.now c.requires _ _ (omega arith) (omega arith) c.digit_of-then-n-lt100.ensures c.digit_of-then-n-lt100-2.ensures in
     record { value = p.0; line_after = p.1 }
-
-pub bounds-line-at-2 : goal.bounds-line-at-2
-bounds-line-at-2 c = simp length-set (omega arith)
-
-pub bounds-line-at-3 : goal.bounds-line-at-3
-bounds-line-at-3 c = simp length-set (omega arith)
-
-pub bounds-line-at-4 : goal.bounds-line-at-4
-bounds-line-at-4 c = simp length-set (omega arith)
 
 pub returns : goal.returns
 returns c =
