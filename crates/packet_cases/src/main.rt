@@ -2,33 +2,39 @@
 // name and a line with the values, under the names of the columns. Octets are in hex and `-` is an empty part; other
 // numbers are decimal.
 #![tactic(auto)]
+
 mod line;
 mod reads;
 mod refusals;
 mod round_trip;
 mod writes;
 
-fn main() {
-    line::say(b"READ: ANSWER COMMAND IDENTIFIER STATUS STATION SEQUENCE START LEN CONTEXT");
-    reads::marked();
-    reads::fields();
-    reads::contexts();
-    refusals::header();
-    refusals::short_length();
-    refusals::length();
-    refusals::address_length();
-    refusals::sequence();
-    refusals::status();
-    refusals::context();
-    refusals::order();
-    line::say(b"WRITE: ANSWER LENGTH BUFFER (EE before the call)");
-    writes::marked();
-    writes::fields();
-    writes::contexts();
-    writes::sequence();
-    writes::status();
-    writes::buffers();
-    writes::order();
-    line::say(b"READ, THEN WRITTEN: the columns as above");
-    round_trip::all();
+use std::io::Result;
+
+fn main(rt: HostRuntime) -> Result<()> {
+    line::say(
+        &rt,
+        b"READ: ANSWER COMMAND IDENTIFIER STATUS STATION SEQUENCE START LEN CONTEXT",
+    )?;
+    reads::marked(&rt)?;
+    reads::fields(&rt)?;
+    reads::contexts(&rt)?;
+    refusals::header(&rt)?;
+    refusals::short_length(&rt)?;
+    refusals::length(&rt)?;
+    refusals::address_length(&rt)?;
+    refusals::sequence(&rt)?;
+    refusals::status(&rt)?;
+    refusals::context(&rt)?;
+    refusals::order(&rt)?;
+    line::say(&rt, b"WRITE: ANSWER LENGTH BUFFER (EE before the call)")?;
+    writes::marked(&rt)?;
+    writes::fields(&rt)?;
+    writes::contexts(&rt)?;
+    writes::sequence(&rt)?;
+    writes::status(&rt)?;
+    writes::buffers(&rt)?;
+    writes::order(&rt)?;
+    line::say(&rt, b"READ, THEN WRITTEN: the columns as above")?;
+    round_trip::all(&rt)
 }
