@@ -10,12 +10,12 @@ returns-then-ap_count-eq0 c =
 
 pub returns-then-ap_count-gt8 : goal.returns-then-ap_count-gt8
 returns-then-ap_count-gt8 c =
-    rw (many_points c.args.ap_count c.args.timeout c.args.resend_limit c.if-ap_count-gt8.true)
+    rw (many_points c.args.ap_count c.args.timeout c.args.resend_limit (omega arith))
 
 pub returns-then-timeout-eq0 : goal.returns-then-timeout-eq0
 returns-then-timeout-eq0 c =
-    rw (no_timeout c.args.ap_count c.args.timeout c.args.resend_limit c.if-ap_count-eq0.false c.if-ap_count-gt8.false c.if-timeout-eq0.true)
+    rw (no_timeout c.args.ap_count c.args.timeout c.args.resend_limit c.if-ap_count-eq0.false (omega arith) c.if-timeout-eq0.true)
 
 pub returns : goal.returns
 returns c =
-    resends_decide c.args.ap_count c.args.timeout c.args.resend_limit c.if-ap_count-eq0.false c.if-ap_count-gt8.false c.if-timeout-eq0.false (omega arith)
+    resends_decide c.args.ap_count c.args.timeout c.args.resend_limit c.if-ap_count-eq0.false (omega arith) c.if-timeout-eq0.false (omega arith)
