@@ -4,11 +4,11 @@ use mathlib.Core.Path.{◌≡◌, refl, ap, sym, subst}
 use Prim.Native.Nat.{ℕ, zero, suc}
 use mathlib.Core.List.{[], ◌∷◌, List}
 use seplogic.Ra.Ura.{Ura}
-use seplogic.Ra.TreeShare.{full_share}
+use base.Fraction.{full_share}
 use lib.Dec.{T as Holds}
 use lib.ListN.{get_or, length}
-use package.mir.Syntax.{Ty, ty_int, ty_ref, mut, imm, named, Width, w8, w16, w32, w64, w128, Local, local, value_local, Opd as Operand, copy, place, Step as PStep}
-use package.mir.Val.{Val, vint, vptr, WT, has_ty}
+use mir.Syntax.{Ty, ty_int, ty_ref, mut, imm, named, Width, w8, w16, w32, w64, w128, Local, local, value_local, Opd as Operand, copy, place, Step as PStep}
+use mir.Val.{Val, vint, vptr, WT, has_ty}
 use base.Logic.{ent, emp, id⊢, via, mono_r}
 use base.Fml.{Fml, ftrue, fsep, fat, froom, fdies}
 use prog.Wp.{Env, Spot, no_local}
@@ -145,7 +145,7 @@ module _ {n : ℕ} where
   octets j ok k = record {
     slot = shr_ref_to (j ∷ []) ok (plain (λ _. Array u8 k));
     ty = ty_ref (named j) imm (pointee (Array u8 k).written);
-    val = λ κs x. vptr x.ptr.0 x.ptr.1;
+    val = λ κs x. vptr x.ref_ptr.0 x.ref_ptr.1;
     tells = λ κs. shr_Tells (named j) (meet_at n (j ∷ []) ok κs) (Array u8 k);
     typed = λ 𝓛 κs x p. (tt, tt);
   }
@@ -182,7 +182,7 @@ module _ {n : ℕ} where
   struct_mut j ok T = record {
     slot = mut_ref_to (j ∷ []) ok (plain (λ _. row T));
     ty = ty_ref (named j) mut (pointee (row T).written);
-    val = λ κs x. vptr x.ptr.0 x.ptr.1;
+    val = λ κs x. vptr x.ref_ptr.0 x.ref_ptr.1;
     tells = λ κs. mut_Tells (named j) (meet_at n (j ∷ []) ok κs) (row T);
     typed = λ 𝓛 κs x p. (tt, tt);
   }

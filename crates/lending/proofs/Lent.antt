@@ -5,10 +5,10 @@ use mathlib.Core.Path.{◌≡◌, refl, ap, sym, subst}
 use Prim.Native.Nat.{ℕ, suc, ◌<◌, ◌^◌}
 use mathlib.Core.List.{[], ◌∷◌, List}
 use seplogic.Ra.Ura.{Ura}
-use seplogic.Ra.TreeShare.{full_share}
+use base.Fraction.{full_share}
 use lib.ListN.{get_or, length}
-use package.mir.Syntax.{Sym, Name, Ty, ty_int, ty_ref, mut, named, w8, Local, local, value_local, copy, place, deref, field as fieldᴾ, erased, addr_of, aggregate, Fn, Body, seq, assign, call, return, rv_opd}
-use package.mir.Val.{Val, vptr}
+use mir.Syntax.{Sym, Callee, Ty, ty_int, ty_ref, mut, named, w8, Local, local, value_local, copy, place, deref, field as fieldᴾ, erased, addr_of, aggregate, Fn, Body, seq, assign, call, return, rv_opd}
+use mir.Val.{Val, vptr}
 use base.Logic.{SProp, ent, sep, ex, emp, id⊢, via, emp∗, mono_l, fst∗, assoc∗, assoc', comm∗}
 use base.Fml.{GName, Lft, Share, ftrue, fsep, flft, fobs, fbor, fat}
 use prog.Wp.{WpFn, Tables, Env, Calls, Loops, no_local}
@@ -38,6 +38,8 @@ use denote.Steps.{opens, closes, owned, peeks, heard, only}
 use denote.Struct.Steps.{spelt}
 use denote.Struct.Laws as LL
 use denote.Struct.Field.{rows}
+use denote.Struct.Values.{Values}
+use denote.Struct.Cover.{Cover}
 use denote.Struct.Struct.{Plains, layout}
 use denote.Struct.Declared.{Declared, fields, shape, row, field}
 use denote.Triple.Call.{calls_from}
@@ -65,9 +67,24 @@ pub record Lendable : Type 3 where
   pub result_lowers : LL.Lowered R
   pub result : D → R.D
   pub one : (x y : D) → ◌≡◌ {A = Denots (rows (field N ∷ field R ∷ []))} (N.to (rec x), (R.to (result x), tt)) (N.to (rec y), (R.to (result y), tt)) → x ≡ y
+  -- D is just the two, with proofs of its ghost fields, if it has any
+  pub cover : Cover D (Values (field N ∷ field R ∷ [])) (λ r. (rec r, (result r, tt)))
+  pub propositions : (v : Values (field N ∷ field R ∷ [])) → IsProp (cover.Ghost v)
 
 abbrev pub outcome : Lendable → Declared
-outcome L = record { name = L.name; args = []; parts = field L.N ∷ field L.R ∷ []; D = L.D; to = λ r. (L.N.to (L.rec r), (L.R.to (L.result r), tt)); to_one = L.one }
+outcome L = record {
+  name = L.name;
+  args = [];
+  types = [];
+  parts = field L.N ∷ field L.R ∷ [];
+  D = L.D;
+  to = λ r. (L.N.to (L.rec r), (L.R.to (L.result r), tt));
+  to_one = L.one;
+  as_values = λ r. (L.rec r, (L.result r, tt));
+  to_is = λ r. refl;
+  cover = L.cover;
+  propositions = L.propositions;
+}
 
 abbrev pub outcome_laws : (L : Lendable) → LL.Laws (outcome L)
 outcome_laws L = (LL.field_laws L.N L.laws L.lowers, (LL.field_laws L.R L.result_laws L.result_lowers, tt))
@@ -111,7 +128,7 @@ module _ (L : Lendable) where
   lent_locals τs = local τ_res value_local ∷ local τ_net value_local ∷ locals τs (local τ_out value_local ∷ local τ_row value_local ∷ [])
 
   -- io and it are the places of the outcome and of the copy of the record
-  abbrev pub lent_body : Name → List Ty → ℕ → ℕ → Body
+  abbrev pub lent_body : Callee → List Ty → ℕ → ℕ → Body
   lent_body g τs io it =
       seq (assign (place it []) (rv_opd (copy (place 1 (deref τ_row ∷ []))))) (seq (call g (copy (place it []) ∷ operands 2 τs) (place io []))
       (seq (assign (place 1 (deref τ_row ∷ [])) (rv_opd (copy (place io (fieldᴾ 0 ∷ []))))) (seq (assign (place 0 []) (rv_opd (copy (place io (fieldᴾ 1 ∷ []))))) return)))
@@ -126,7 +143,7 @@ module _ (L : Lendable) where
   abbrev pub buf_locals : ℕ → List Ty → List Local
   buf_locals j τs = local τ_res value_local ∷ local τ_net value_local ∷ local (τ_buf j) value_local ∷ locals τs (local τ_out value_local ∷ local τ_row value_local ∷ local τ_part value_local ∷ local (slice_ty τ_part) value_local ∷ [])
 
-  abbrev pub buf_body : Name → List Ty → ℕ → ℕ → ℕ → ℕ → Body
+  abbrev pub buf_body : Callee → List Ty → ℕ → ℕ → ℕ → ℕ → Body
   buf_body g τs io it ip is =
       seq (assign (place it []) (rv_opd (copy (place 1 (deref τ_row ∷ []))))) (seq (assign (place ip []) (addr_of (place 2 (fieldᴾ 0 ∷ deref (ty_int w8) ∷ []))))
       (seq (assign (place is []) (aggregate (copy (place ip []) ∷ copy (place 2 (fieldᴾ 1 ∷ [])) ∷ []))) (seq (call g (copy (place it []) ∷ copy (place is []) ∷ operands 3 τs) (place io []))
@@ -145,9 +162,9 @@ module _ (L : Lendable) where
 
     -- what g leaves: what it hands back, the outcome, and what it ensures
     abbrev pub After : Item 𝓤 → (Res → SProp 𝓤) → Val → Item 𝓤
-    After back En v = later (some (λ (r : Res). (back ⊛ ‵ (Out.own r (v ∷ []))) ⊛ raw (En r)))
+    After back En v = later (some (λ (r : Res). (back ⊛ ‵ (Out.own_val r (v ∷ []))) ⊛ raw (En r)))
 
-    pub lend : (C : Calls 𝓤 H) (Λ : Loops 𝓤 H) → FmC 𝓤 H 𝓛.laws C → (g : Name) (τs : List Ty) (us : Words τs) → Good τs us → (io it : ℕ) → Placed τs io it
+    pub lend : (C : Calls 𝓤 H) (Λ : Loops 𝓤 H) → FmC 𝓤 H 𝓛.laws C → (g : Callee) (τs : List Ty) (us : Words τs) → Good τs us → (io it : ℕ) → Placed τs io it
         → (κ : Lft) (q : Share) (b o : ℕ) (γ : GName) (h : Rec) (give back : Item 𝓤) (En : Res → SProp 𝓤) (Post : Val → SProp 𝓤)
         → (Is Row h (mach h ∷ []) → ent 𝓤 (mean 𝓛 (‵ (Row.own_val h (mach h ∷ [])) ⊛ give)) (C g (mach h ∷ listed τs us) (λ v. mean 𝓛 (After back En v))))
         → ((r : Res) → Is Result (L.result r) (mach_res (L.result r) ∷ []) → ent 𝓤 (⋆ 𝓛 (‵ (fobs γ (Row.coded.code (L.rec r))) ∷ ‵ (fbor κ (Inside (mem Row) b o γ)) ∷ ‵ (flft κ q) ∷ (back ⊛ raw (En r)) ∷ [])) (Post (mach_res (L.result r))))
@@ -188,7 +205,7 @@ module _ (L : Lendable) where
         → (get_or (buf_env j τs l₀ l₁ lb bs lo lt lp ls) io (no_local 𝓤 H) ≡ (τ_out, lo)) × ((get_or (buf_env j τs l₀ l₁ lb bs lo lt lp ls) it (no_local 𝓤 H) ≡ (τ_row, lt)) × ((get_or (buf_env j τs l₀ l₁ lb bs lo lt lp ls) ip (no_local 𝓤 H) ≡ (τ_part, lp))
         × ((get_or (buf_env j τs l₀ l₁ lb bs lo lt lp ls) is (no_local 𝓤 H) ≡ (slice_ty τ_part, ls)) × Spotted (no_local 𝓤 H) (buf_env j τs l₀ l₁ lb bs lo lt lp ls) 3 τs bs)))
 
-    pub lend_buf : (C : Calls 𝓤 H) (Λ : Loops 𝓤 H) → FmC 𝓤 H 𝓛.laws C → (g : Name) (j : ℕ) (τs : List Ty) (pb : ℕ × ℕ) (n : ℕ) → n < 2 ^ 64 → (us : Words τs) → Good τs us → (io it ip is : ℕ) → Buf-placed j τs io it ip is
+    pub lend_buf : (C : Calls 𝓤 H) (Λ : Loops 𝓤 H) → FmC 𝓤 H 𝓛.laws C → (g : Callee) (j : ℕ) (τs : List Ty) (pb : ℕ × ℕ) (n : ℕ) → n < 2 ^ 64 → (us : Words τs) → Good τs us → (io it ip is : ℕ) → Buf-placed j τs io it ip is
         → (κ : Lft) (q : Share) (b o : ℕ) (γ : GName) (h : Rec) (give back : Item 𝓤) (En : Res → SProp 𝓤) (Post : Val → SProp 𝓤)
         → (Is Row h (mach h ∷ []) → ent 𝓤 (mean 𝓛 (‵ (Row.own_val h (mach h ∷ [])) ⊛ give)) (C g (mach h ∷ slice_val pb n ∷ listed τs us) (λ v. mean 𝓛 (After back En v))))
         → ((r : Res) → Is Result (L.result r) (mach_res (L.result r) ∷ []) → ent 𝓤 (⋆ 𝓛 (‵ (fobs γ (Row.coded.code (L.rec r))) ∷ ‵ (fbor κ (Inside (mem Row) b o γ)) ∷ ‵ (flft κ q) ∷ (back ⊛ raw (En r)) ∷ [])) (Post (mach_res (L.result r))))
@@ -230,14 +247,14 @@ module _ (L : Lendable) where
     abbrev τs : List Ty
     τs = tys hs
 
-    abbrev pub lent_fn : Name → ℕ → ℕ → ℕ → Fn
-    lent_fn g p io it = record { lifetimes = suc m; outlives = []; params = p; locals = lent_locals τs; body = lent_body g τs io it }
+    abbrev pub lent_fn : Callee → ℕ → ℕ → ℕ → Fn
+    lent_fn g p io it = record { lifetimes = suc m; outlives = []; ty_params = []; givens = 0; params = p; locals = lent_locals τs; body = lent_body g τs io it }
 
     abbrev Types : Lfts (suc m) → List RattleType
     Types κs = types_at (slots hs) κs
 
     -- a walk of fn
-    abbrev pub Ran : {M : Type 1} {𝓤 : Ura M} → (𝓛 : Logic 𝓤) → Name → Fn → Type 2
+    abbrev pub Ran : {M : Type 1} {𝓤 : Ura M} → (𝓛 : Logic 𝓤) → Callee → Fn → Type 2
     Ran {𝓤 = 𝓤} 𝓛 g fn = (C : Calls 𝓤 𝓛.H) (Λ : Loops 𝓤 𝓛.H) → FmC 𝓤 𝓛.H 𝓛.laws C → (κs : Lfts (suc m)) (a : Denots (Types κs)) → Are (Types κs) (Ises (Types κs)) a (spelled κs hs a)
         → (κ : Lft) (q : Share) (b o : ℕ) (γ : GName) (h : Rec) (give back : Item 𝓤) (En : Res → SProp 𝓤) (Post : Val → SProp 𝓤)
         → (Is Row h (mach h ∷ []) → ent 𝓤 (mean 𝓛 (‵ (Row.own_val h (mach h ∷ [])) ⊛ give)) (C g (mach h ∷ listed τs (words κs hs a)) (λ v. mean 𝓛 (After 𝓛 back En v))))
@@ -245,10 +262,10 @@ module _ (L : Lendable) where
         → Sq 𝓛 (‵ (fobs γ (Row.coded.code h)) ∷ ‵ (fbor κ (Inside (mem Row) b o γ)) ∷ ‵ (flft κ q) ∷ give ∷ [])
         (allocs fn.locals (λ E. params' E (vptr b o ∷ listed τs (words κs hs a)) (runs C Λ E fn.body (at_ret E Post))))
 
-    pub by_value : {M : Type 1} {𝓤 : Ura M} (𝓛 : Logic 𝓤) (g : Name) (p io it : ℕ) → Placed 𝓛 τs io it → Ran 𝓛 g (lent_fn g p io it)
+    pub by_value : {M : Type 1} {𝓤 : Ura M} (𝓛 : Logic 𝓤) (g : Callee) (p io it : ℕ) → Placed 𝓛 τs io it → Ran 𝓛 g (lent_fn g p io it)
     by_value 𝓛 g p io it placed C Λ fm κs a are = lend 𝓛 C Λ fm g τs (words κs hs a) (all_good κs 𝓛 hs a are) io it placed
 
-    module _ {M : Type 1} {𝓤 : Ura M} (𝓛 : Logic 𝓤) (c : Clauses 𝓤 Lent) (g : Name) (fn : Fn) (ran : Ran 𝓛 g fn) (Φ : (κs : Lfts (suc m)) → Rec → (a : Denots (Types κs)) → Res → Fins κs (slots hs) (keeps hs) a → Type 0) where
+    module _ {M : Type 1} {𝓤 : Ura M} (𝓛 : Logic 𝓤) (c : Clauses 𝓤 Lent) (g : Callee) (fn : Fn) (ran : Ran 𝓛 g fn) (Φ : (κs : Lfts (suc m)) → Rec → (a : Denots (Types κs)) → Res → Fins κs (slots hs) (keeps hs) a → Type 0) where
       -- what g ensures: Φ of the outcome and of the arguments' last values
       open 𝓛 use {H}
 
@@ -285,11 +302,11 @@ module _ (L : Lendable) where
         walks : Triple 𝓤 (WpFn 𝓤 H C Λ fn) (walk_of 𝓛 Lent (stay_ref (0 ∷ []) tt (plain (λ _. Row)), dropped hs) c)
         walks = walked 𝓛 Lent (stay_ref (0 ∷ []) tt (plain (λ _. Row)), dropped hs) c (WpFn 𝓤 H C Λ fn) (λ κs. (mut_vals, spelling κs hs)) (λ κs. (mut_Tells (named 0) κs.0 Row, telling κs hs))
             (λ κs qs bounds a gh are. via 𝓤 _ (fst∗ 𝓤 _ ((c κs a).requires gh)) (
-            subst (λ (us : List Val). ent 𝓤 (on_entry 𝓛 Lent.signature κs qs a (mut_vals a.0, spelled κs hs a.1)) (WpFn 𝓤 H C Λ fn (vptr a.0.ptr.0 a.0.ptr.1 ∷ us)
+            subst (λ (us : List Val). ent 𝓤 (on_entry 𝓛 Lent.signature κs qs a (mut_vals a.0, spelled κs hs a.1)) (WpFn 𝓤 H C Λ fn (vptr a.0.ref_ptr.0 a.0.ref_ptr.1 ∷ us)
             ((walk_of 𝓛 Lent (stay_ref (0 ∷ []) tt (plain (λ _. Row)), dropped hs) c).post ((κs, qs, bounds, a, (mut_vals a.0, spelled κs hs a.1)), gh)))) (sym (flat_is κs hs a.1)) (
             qed 𝓛 ((‵ (flft κs.0 qs.0) ⊛ raw (toks 𝓛 m κs.1 qs.1)) ∷ ‵ (owns (MutRef (named 0) κs.0 Row ∷ Types κs) a (mut_vals a.0, spelled κs hs a.1)) ∷ []) ∵
             split ! $ move ! (2 ∷ []) $ fsplit ! $ fsplit3 ! $ drop ! $ move ! (4 ∷ 2 ∷ []) $ join ! $ move ! (1 ∷ 2 ∷ 3 ∷ []) $
-            enter ! C Λ fn (vptr a.0.ptr.0 a.0.ptr.1 ∷ listed τs (words κs hs a.1)) _ $
+            enter ! C Λ fn (vptr a.0.ref_ptr.0 a.0.ref_ptr.1 ∷ listed τs (words κs hs a.1)) _ $
             ran C Λ fm κs a.1 are.1 κs.0 qs.0 a.0.ref_ptr.0 a.0.ref_ptr.1 a.0.ghost_name a.0.now
             (give κs qs a.1) (raw (toks 𝓛 m κs.1 qs.1)) (En κs a.0.now a.1) _ (λ was. via 𝓤 _ (in_order 𝓤 (sem 𝓛 (Row.own_val a.0.now (LL.vals L.N L.laws a.0.now))) (toks 𝓛 m κs.1 qs.1) (sem 𝓛 (owns (Types κs) a.1 (spelled κs hs a.1)))) (asks κs qs a.0.now a.1)) (exits κs qs bounds a.0 a.1 gh))))
 
@@ -299,9 +316,9 @@ module _ (L : Lendable) where
 
   -- a buffer before the other arguments
   module _ (m j : ℕ) (ok : AllWithin (suc m) (j ∷ [])) (hs : List (Handed (suc m))) where
-    abbrev pub buf_fn : Name → ℕ → ℕ → ℕ → ℕ → ℕ → Fn
-    buf_fn g p io it ip is = record { lifetimes = suc m; outlives = []; params = p; locals = buf_locals j (tys hs); body = buf_body g (tys hs) io it ip is }
+    abbrev pub buf_fn : Callee → ℕ → ℕ → ℕ → ℕ → ℕ → Fn
+    buf_fn g p io it ip is = record { lifetimes = suc m; outlives = []; ty_params = []; givens = 0; params = p; locals = buf_locals j (tys hs); body = buf_body g (tys hs) io it ip is }
 
-    pub with_buffer : {M : Type 1} {𝓤 : Ura M} (𝓛 : Logic 𝓤) (g : Name) (p io it ip is : ℕ) → Buf-placed 𝓛 j (tys hs) io it ip is → Ran m (bytes_mut j ok ∷ hs) 𝓛 g (buf_fn g p io it ip is)
+    pub with_buffer : {M : Type 1} {𝓤 : Ura M} (𝓛 : Logic 𝓤) (g : Callee) (p io it ip is : ℕ) → Buf-placed 𝓛 j (tys hs) io it ip is → Ran m (bytes_mut j ok ∷ hs) 𝓛 g (buf_fn g p io it ip is)
     with_buffer 𝓛 g p io it ip is placed C Λ fm κs a are =
         lend_buf 𝓛 C Λ fm g j (tys hs) a.0.ref_ptr (length a.0.now) are.0.0.1.0 (words κs hs a.1) (all_good κs 𝓛 hs a.1 are.1) io it ip is placed

@@ -7,7 +7,7 @@ use Prim.Native.Nat.{ℕ, suc}
 use mathlib.Core.List.{[], ◌∷◌, List}
 use seplogic.Ra.Ura.{Ura}
 use lib.ListN.{get_or}
-use mir.Syntax.{Name, Ty, ty_ref, mut, named, Local, local, value_local, copy, place, deref, erased, addr_of, Fn, Body, seq, assign, call, return}
+use mir.Syntax.{Callee, Ty, ty_ref, mut, named, Local, local, value_local, copy, place, deref, erased, addr_of, Fn, Body, seq, assign, call, return}
 use mir.Val.{Val, vptr}
 use base.Logic.{SProp, ent, sep, ex, emp, id⊢, via, emp∗, comm∗, fst∗}
 use base.Fml.{Lft, Share, flft}
@@ -84,7 +84,7 @@ module _ (P : Passable) where
   abbrev pub pass_locals : List Ty → List Local
   pass_locals τs = local τ_res value_local ∷ local τ_net value_local ∷ locals τs (local τ_ask value_local ∷ local τ_on value_local ∷ [])
 
-  abbrev pub pass_body : Name → Name → List Ty → ℕ → ℕ → Body
+  abbrev pub pass_body : Callee → Callee → List Ty → ℕ → ℕ → Body
   pass_body g h τs iq ir =
       seq (call g (operands 2 τs) (place iq [])) (seq (assign (place ir []) (addr_of (place 1 (deref τ_row ∷ []))))
       (seq (call h (copy (place ir []) ∷ copy (place iq []) ∷ []) (place 0 [])) return))
@@ -101,16 +101,16 @@ module _ (P : Passable) where
 
     -- what g and h leave: what they hand back, what they return, and what they ensure
     abbrev pub Made : Item 𝓤 → (Ask → SProp 𝓤) → Val → Item 𝓤
-    Made back En v = later (some (λ (q : Ask). (back ⊛ ‵ (Asked.own q (v ∷ []))) ⊛ raw (En q)))
+    Made back En v = later (some (λ (q : Ask). (back ⊛ ‵ (Asked.own_val q (v ∷ []))) ⊛ raw (En q)))
 
     abbrev pub Answered : Item 𝓤 → (Res → SProp 𝓤) → Val → Item 𝓤
-    Answered back En v = later (some (λ (r : Res). (back ⊛ ‵ (Result.own r (v ∷ []))) ⊛ raw (En r)))
+    Answered back En v = later (some (λ (r : Res). (back ⊛ ‵ (Result.own_val r (v ∷ []))) ⊛ raw (En r)))
 
-    pub pass : (C : Calls 𝓤 H) (Λ : Loops 𝓤 H) → FmC 𝓤 H 𝓛.laws C → (g h : Name) (τs : List Ty) (us : Words τs) → Good τs us → (iq ir : ℕ) → Pass-placed τs iq ir
+    pub pass : (C : Calls 𝓤 H) (Λ : Loops 𝓤 H) → FmC 𝓤 H 𝓛.laws C → (g h : Callee) (τs : List Ty) (us : Words τs) → Good τs us → (iq ir : ℕ) → Pass-placed τs iq ir
         → (b o : ℕ) (give₁ give₂ back₁ back₂ : Item 𝓤) (En₁ : Ask → SProp 𝓤) (En₂ : Ask → Res → SProp 𝓤) (Post : Val → SProp 𝓤)
         → ent 𝓤 (mean 𝓛 give₁) (C g (listed τs us) (λ v. mean 𝓛 (Made back₁ En₁ v)))
-        → ((q : Ask) (v : Val) → ent 𝓤 (mean 𝓛 (give₂ ⊛ ‵ (Asked.own q (v ∷ [])))) (C h (vptr b o ∷ v ∷ []) (λ v'. mean 𝓛 (Answered back₂ (En₂ q) v'))))
-        → ((q : Ask) (r : Res) (v' : Val) → ent 𝓤 (⋆ 𝓛 (‵ (Result.own r (v' ∷ [])) ∷ (back₂ ⊛ raw (En₂ q r)) ∷ (back₁ ⊛ raw (En₁ q)) ∷ [])) (Post v'))
+        → ((q : Ask) (v : Val) → ent 𝓤 (mean 𝓛 (give₂ ⊛ ‵ (Asked.own_val q (v ∷ [])))) (C h (vptr b o ∷ v ∷ []) (λ v'. mean 𝓛 (Answered back₂ (En₂ q) v'))))
+        → ((q : Ask) (r : Res) (v' : Val) → ent 𝓤 (⋆ 𝓛 (‵ (Result.own_val r (v' ∷ [])) ∷ (back₂ ⊛ raw (En₂ q r)) ∷ (back₁ ⊛ raw (En₁ q)) ∷ [])) (Post v'))
         → Sq 𝓛 (give₁ ∷ give₂ ∷ [])
         (allocs (pass_locals τs) (λ E. params' E (vptr b o ∷ listed τs us) (runs C Λ E (pass_body g h τs iq ir) (at_ret E Post))))
     pass C Λ fm g h τs us good iq ir placed b o give₁ give₂ back₁ back₂ En₁ En₂ Post met₁ met₂ exits =
@@ -127,7 +127,7 @@ module _ (P : Passable) where
         assigns ! (addr ! (from ! (hop ! (look ! 7 refl) (stop !)))) (found 𝓛 (placed l₀ l₁ bs lq lr).1.0 (stop !)) (init ! 3 refl (tt, tt)) $
         move ! (11 ∷ 0 ∷ []) $ join ! $
         -- [what is handed to h; back₁; the arguments' cells; _r 3; …; _q 5; …; _1 7; …; _0 9; …]
-        calls_from ! fm (give₂ ⊛ ‵ (Asked.own q (v ∷ []))) (vptr b o ∷ v ∷ []) (λ v'. mean 𝓛 (Answered back₂ (En₂ q) v')) (met₂ q v)
+        calls_from ! fm (give₂ ⊛ ‵ (Asked.own_val q (v ∷ []))) (vptr b o ∷ v ∷ []) (λ v'. mean 𝓛 (Answered back₂ (En₂ q) v')) (met₂ q v)
         (and_then ! (load ! (found 𝓛 (placed l₀ l₁ bs lq lr).1.0 (stop !)) (look ! 3 refl)) (and_then ! (load ! (found 𝓛 (placed l₀ l₁ bs lq lr).0 (stop !)) (look ! 5 refl)) (no_more !))) (λ v'.
         use1 𝓛 (Answered back₂ (En₂ q) v') (id⊢ 𝓤 _) $ await ! tt $ pick ! (λ r.
         split ! $ split ! $ move ! (0 ∷ 2 ∷ []) $ join ! $ move ! (1 ∷ []) $ peeks ! Result (Is Result) (shows 𝓛 Result) r (v' ∷ []) (λ is'.
@@ -148,8 +148,8 @@ module _ (P : Passable) where
     abbrev τs : List Ty
     τs = tys hs
 
-    abbrev pub pass_fn : Name → Name → ℕ → ℕ → ℕ → Fn
-    pass_fn g h p iq ir = record { lifetimes = suc m; outlives = []; params = p; locals = pass_locals τs; body = pass_body g h τs iq ir }
+    abbrev pub pass_fn : Callee → Callee → ℕ → ℕ → ℕ → Fn
+    pass_fn g h p iq ir = record { lifetimes = suc m; outlives = []; ty_params = []; givens = 0; params = p; locals = pass_locals τs; body = pass_body g h τs iq ir }
 
     abbrev Types : Lfts (suc m) → List RattleType
     Types κs = types_at (slots hs) κs
@@ -161,7 +161,7 @@ module _ (P : Passable) where
     abbrev at_kept : Kepts at_slots
     at_kept = (yes, (yes, tt))
 
-    module _ {M : Type 1} {𝓤 : Ura M} (𝓛 : Logic 𝓤) (c : Clauses 𝓤 Passed) (g h : Name) (p iq ir : ℕ) (placed : Pass-placed 𝓛 τs iq ir)
+    module _ {M : Type 1} {𝓤 : Ura M} (𝓛 : Logic 𝓤) (c : Clauses 𝓤 Passed) (g h : Callee) (p iq ir : ℕ) (placed : Pass-placed 𝓛 τs iq ir)
         (Φ : (κs : Lfts (suc m)) → Denots (Types κs) → Ask → Type 0) (Ψ : Rec → Ask → Res → Rec → Type 0) where
       -- what g ensures: Φ of what is asked. What h ensures: Ψ of the record, what is asked, the answer and the record's last value
       open 𝓛 use {H}
@@ -202,21 +202,21 @@ module _ (P : Passable) where
             via 𝓤 (sep 𝓤 X (emp 𝓤)) (via 𝓤 (sep 𝓤 (emp 𝓤) X) (emp∗ 𝓤 X) (comm∗ 𝓤 (emp 𝓤) X)) (makes κs qs a)
 
         does_it : (κ : Lft) (s : Share) (x : MutBor Rec) (q : Ask) (v : Val)
-            → ent 𝓤 (mean 𝓛 (give₂ κ s x ⊛ ‵ (Asked.own q (v ∷ [])))) (C h (vptr x.ref_ptr.0 x.ref_ptr.1 ∷ v ∷ []) (λ v'. mean 𝓛 (Answered 𝓛 (raw (toks 𝓛 1 (κ, tt) (s, tt))) (En₂ κ x q) v')))
+            → ent 𝓤 (mean 𝓛 (give₂ κ s x ⊛ ‵ (Asked.own_val q (v ∷ [])))) (C h (vptr x.ref_ptr.0 x.ref_ptr.1 ∷ v ∷ []) (λ v'. mean 𝓛 (Answered 𝓛 (raw (toks 𝓛 1 (κ, tt) (s, tt))) (En₂ κ x q) v')))
         does_it κ s x q v = via 𝓤 _ (lent_on κ s x q v) (does κ s x q v)
           where
-            lent_on : (κ : Lft) (s : Share) (x : MutBor Rec) (q : Ask) (v : Val) → ent 𝓤 (mean 𝓛 (give₂ κ s x ⊛ ‵ (Asked.own q (v ∷ []))))
+            lent_on : (κ : Lft) (s : Share) (x : MutBor Rec) (q : Ask) (v : Val) → ent 𝓤 (mean 𝓛 (give₂ κ s x ⊛ ‵ (Asked.own_val q (v ∷ []))))
                 (sep 𝓤 (sep 𝓤 (toks 𝓛 1 (κ, tt) (s, tt)) (sem 𝓛 (owns (MutRef (named 0) κ Row ∷ Asked ∷ []) (x, (q, tt)) (mut_vals x, (v ∷ [], tt))))) (emp 𝓤))
             lent_on κ s x q v =
-                qed 𝓛 ((give₂ κ s x ⊛ ‵ (Asked.own q (v ∷ []))) ∷ []) ∵ split ! $ split ! $
+                qed 𝓛 ((give₂ κ s x ⊛ ‵ (Asked.own_val q (v ∷ []))) ∷ []) ∵ split ! $ split ! $
                 -- [the token; the record's borrow; what Q owns]
                 nothing ! $ move ! (3 ∷ 0 ∷ []) $ join ! $ move ! (2 ∷ 0 ∷ []) $ join ! $ nothing ! $ move ! (2 ∷ 0 ∷ []) $ join ! $ join ! $ frame ! $ done !
 
         exits : (κs : Lfts (suc m)) (qs : Shares (suc m)) (bounds : AllOutlive (suc m) [] κs) (x : MutBor Rec) (a : Denots (Types κs)) (gh : (c κs (x, a)).ghost) (q : Ask) (r : Res) (v' : Val)
-            → ent 𝓤 (⋆ 𝓛 (‵ (Result.own r (v' ∷ [])) ∷ (raw (toks 𝓛 1 (κs.0, tt) (qs.0, tt)) ⊛ raw (En₂ κs.0 x q r)) ∷ (raw (toks 𝓛 m κs.1 qs.1) ⊛ raw (En₁ κs a q)) ∷ []))
+            → ent 𝓤 (⋆ 𝓛 (‵ (Result.own_val r (v' ∷ [])) ∷ (raw (toks 𝓛 1 (κs.0, tt) (qs.0, tt)) ⊛ raw (En₂ κs.0 x q r)) ∷ (raw (toks 𝓛 m κs.1 qs.1) ⊛ raw (En₁ κs a q)) ∷ []))
             ((walk_of 𝓛 Passed (dropped all) c).post ((κs, qs, bounds, (x, a), (mut_vals x, spelled κs hs a)), gh) v')
         exits κs qs bounds x a gh q r v' =
-            qed 𝓛 (‵ (Result.own r (v' ∷ [])) ∷ (raw (toks 𝓛 1 (κs.0, tt) (qs.0, tt)) ⊛ raw (En₂ κs.0 x q r)) ∷ (raw (toks 𝓛 m κs.1 qs.1) ⊛ raw (En₁ κs a q)) ∷ []) ∵
+            qed 𝓛 (‵ (Result.own_val r (v' ∷ [])) ∷ (raw (toks 𝓛 1 (κs.0, tt) (qs.0, tt)) ⊛ raw (En₂ κs.0 x q r)) ∷ (raw (toks 𝓛 m κs.1 qs.1) ⊛ raw (En₁ κs a q)) ∷ []) ∵
             move ! (2 ∷ []) $ split ! $ move ! (1 ∷ []) $
             -- [what g ensures; the others' tokens; what R owns; back₂]
             use1 𝓛 (some (λ (ws : Fins κs (slots hs) (keeps hs) a). ‵ (lasts_of κs (slots hs) (keeps hs) a ws) ⊛ raw (fact 𝓤 (Φ κs a q)))) (id⊢ 𝓤 _) $ pick ! (λ ws.
@@ -235,14 +235,14 @@ module _ (P : Passable) where
         walks : Triple 𝓤 (WpFn 𝓤 H C Λ (pass_fn g h p iq ir)) (walk_of 𝓛 Passed (dropped all) c)
         walks = walked 𝓛 Passed (dropped all) c (WpFn 𝓤 H C Λ (pass_fn g h p iq ir)) (λ κs. spelling κs all) (λ κs. telling κs all)
             (λ κs qs bounds a gh are. via 𝓤 _ (fst∗ 𝓤 _ ((c κs a).requires gh)) (
-            subst (λ (us : List Val). ent 𝓤 (on_entry 𝓛 Passed.signature κs qs a (spelled κs all a)) (WpFn 𝓤 H C Λ (pass_fn g h p iq ir) (vptr a.0.ptr.0 a.0.ptr.1 ∷ us)
+            subst (λ (us : List Val). ent 𝓤 (on_entry 𝓛 Passed.signature κs qs a (spelled κs all a)) (WpFn 𝓤 H C Λ (pass_fn g h p iq ir) (vptr a.0.ref_ptr.0 a.0.ref_ptr.1 ∷ us)
             ((walk_of 𝓛 Passed (dropped all) c).post ((κs, qs, bounds, a, spelled κs all a), gh)))) (sym (flat_is κs hs a.1)) (
             qed 𝓛 ((‵ (flft κs.0 qs.0) ⊛ raw (toks 𝓛 m κs.1 qs.1)) ∷ ‵ (owns (MutRef (named 0) κs.0 Row ∷ Types κs) a (spelled κs all a)) ∷ []) ∵
             split ! $ move ! (2 ∷ []) $ fsplit ! $
             -- [the record's borrow; what the arguments own; the token; the others' tokens]
             move ! (3 ∷ 1 ∷ []) $ join ! $ move ! (2 ∷ 1 ∷ []) $ join ! $ move ! (1 ∷ []) $
-            enter ! C Λ (pass_fn g h p iq ir) (vptr a.0.ptr.0 a.0.ptr.1 ∷ listed τs (words κs hs a.1)) _ $
-            pass 𝓛 C Λ fm g h τs (words κs hs a.1) (all_good κs 𝓛 hs a.1 are.1) iq ir placed a.0.ptr.0 a.0.ptr.1
+            enter ! C Λ (pass_fn g h p iq ir) (vptr a.0.ref_ptr.0 a.0.ref_ptr.1 ∷ listed τs (words κs hs a.1)) _ $
+            pass 𝓛 C Λ fm g h τs (words κs hs a.1) (all_good κs 𝓛 hs a.1 are.1) iq ir placed a.0.ref_ptr.0 a.0.ref_ptr.1
             (give₁ κs qs a.1) (give₂ κs.0 qs.0 a.0) (raw (toks 𝓛 m κs.1 qs.1)) (raw (toks 𝓛 1 (κs.0, tt) (qs.0, tt))) (En₁ κs a.1) (En₂ κs.0 a.0) _
             (makes_it κs qs a.1) (does_it κs.0 qs.0 a.0) (exits κs qs bounds a.0 a.1 gh))))
 

@@ -1,16 +1,16 @@
 -- The places where the fields of a line and the first lines of a script end, one found after the other.
 -- Assumes nothing.
 use Prim.Native.Nat.{ℕ, zero, suc, ◌+◌, ◌-◌, ◌<◌, ◌≤◌}
-use mathlib.Core.Path.{◌≡◌, refl, ap, ◌∙◌}
+use mathlib.Core.Path.{◌≡◌, refl, sym, ap, ◌∙◌}
 use mathlib.Core.Bool.{Bool, true, false, cond}
 use mathlib.Core.List.{List, [], ◌∷◌}
 use native.Mathlib.Nat.{add-zero}
+use native.Mathlib.Numerals.{add-one}
 use native.Mathlib.Omega.{arith}
-use borrow.Author.Tests.{ltb-true, ltb-false, lt-ltb, le-ltb}
+use borrow.Author.Tests.{ltb-true, ltb-false, lt-ltb, le-ltb, eq-eqb, ne_eqb}
 use lib.Dec.{eqb, ltb}
-use lib.ListN.{length, take, drop, length-drop, drop_of_length-le}
-use lib.Seq.{take-length, drop-drop}
-use Rattle.bytes.specs.Bytes.{index_after, index_of, slice}
+use lib.ListN.{length, take, drop, get_or, length-drop, drop_of_length-le}
+use lib.Seq.{drop-drop, drop-cons}
 use Rattle.lists.specs.Search.{index_by}
 use Rattle.lists.proofs.Bools.{by_cond}
 use Rattle.lists.proofs.Choices.{by_bool}
@@ -19,25 +19,20 @@ use Rattle.script.proofs.Cut.{place_within, split_cut, lines_cut, lines_end, fie
 use Rattle.script_reader.specs.Heard.{past_line, three_lines}
 use Rattle.script_reader.specs.Parts.{Six, Three, ThreeLines}
 
--- what the library's search finds
-
-after_is : (b : Bool) (k : ℕ) → index_after b k ≡ cond b 0 (suc k)
-unfolding index_after
-after_is true k = refl
-after_is false k = refl
-
-index_is : (c : ℕ) (xs : List ℕ) → index_of c xs ≡ index_by (λ x. eqb x c) xs
-unfolding index_of
-index_is c [] = refl
-index_is c (x ∷ xs) = after_is (eqb x c) (index_of c xs) ∙ rw (index_is c xs)
-
 pub place_past : (c at : ℕ) (s : List ℕ) → length s ≤ at → at ≡ place_from c at s
 unfolding place_from
 place_past c at s h = rw (drop_of_length-le s h, add-zero)
 
-pub place_found : (c at r : ℕ) (s : List ℕ) → r ≡ at + index_of c (slice at (length s) s) → r ≡ place_from c at s
-unfolding place_from slice
-place_found c at r s e = e ∙ rw (take-length, index_is)
+-- the search at i: it is there, or it goes on
+
+module _ (c at i : ℕ) (s : List ℕ) (e : place_from c at s ≡ place_from c i s) (h : i < length s) where
+  pub place_hit : get_or s i 0 ≡ c → i ≡ place_from c at s
+  unfolding place_from
+  place_hit t = sym (e ∙ rw (drop-cons s i 0, eq-eqb (get_or s i 0) c t) (add-zero i))
+
+  pub place_miss : (get_or s i 0 ≡ c → ⊥) → place_from c at s ≡ place_from c (i + 1) s
+  unfolding place_from
+  place_miss t = e ∙ rw (add-one i, drop-cons s i 0, ne_eqb (get_or s i 0) c t) (omega arith)
 
 -- a place is not before where the search begins, and not past the end unless that is
 

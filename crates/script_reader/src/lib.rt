@@ -1,5 +1,6 @@
 // Lines of a script read: an event or an unreadable line, and the set-up of the first three lines.
 #![tactic(auto)]
+
 ghost use Rattle.std.specs.Prelude.{◌≡◌, ◌≤◌, length, get_or};
 ghost use Rattle.std.proofs.Math.Option.{none};
 ghost use Rattle.script.specs.Text.{place_from, next_from};
@@ -44,10 +45,14 @@ struct Ends {
 pub fn place_of(s: &[u8], at: usize, c: u8) -> usize
     ensures { result ≡ place_from c at s.now }
 {
-    if s.len() < at {
-        return at;
+    let mut i: usize = at;
+    while i < s.len() {
+        if s[i] == c {
+            return i;
+        }
+        i += 1;
     }
-    bytes::scan::find(s, at, s.len(), c)
+    i
 }
 
 // Where the line after the end of a line begins.

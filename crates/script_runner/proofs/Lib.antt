@@ -1,3 +1,5 @@
+-- a turn of the loop over the lines
+pub mod Steps
 -- texts put into a buffer one after the other
 pub mod Buffers
 -- what one line prints and leaves

@@ -1,5 +1,6 @@
 // A script run on a floor: the lines of events on a network's record, and a whole script from its set-up on.
 #![tactic(auto)]
+
 ghost use Rattle.std.specs.Prelude.{◌≡◌, true, cond, ◌++◌, ◌+◌, ◌≤◌, leb, length};
 ghost use Rattle.answers.specs.Numbers.{number_of};
 ghost use Rattle.network.specs.Events.{valid_network_record};

@@ -5,3 +5,6 @@ use Rattle.events.proofs.action.Goals as goal
 
 pub returns-in-Deliver : goal.returns-in-Deliver
 returns-in-Deliver c = elim c.in-Deliver.is [ inl e ↦ rw e c.receive.ensures | inr e ↦ rw e c.receive.ensures ]
+
+pub returns-in-Lose : goal.returns-in-Lose
+returns-in-Lose c = rw c.in-Lose.is c.lose.ensures

@@ -1,0 +1,74 @@
+-- `script_runner::print_all` meets its contract.
+-- Assumes nothing.
+use Prim.Native.Nat.{ℕ, ◌+◌, ◌-◌, ◌≤◌, ◌<◌}
+use mathlib.Core.Path.{◌≡◌, refl, sym, ap, ◌∙◌}
+use mathlib.Core.Bool.{true}
+use mathlib.Core.List.{List, ◌++◌}
+use native.Mathlib.Omega.{arith}
+use borrow.Author.Tests.{leb-true, leb-false}
+use lib.ListN.{length, take, drop, length-append, length-drop}
+use Rattle.lists.proofs.Fronts.{rest_from}
+use Rattle.script.specs.Put.{over}
+use Rattle.script.specs.Text.{octets_of, lines}
+use Rattle.script.specs.Result.{result_names}
+use Rattle.script.specs.Script.{printed}
+use Rattle.script_runner.specs.Played.{Played}
+use Rattle.script_runner.proofs.Buffers.{back, room_left, both_written}
+use Rattle.script_runner.proofs.Whole.{refused_is, written_is, names_length, played_fits}
+use Rattle.script_runner.proofs.print_all.Goals as goal
+
+-- all of it: the names, and what the lines print
+whole : (t : List ℕ) → length (result_names ++ t) ≡ 38 + length t
+whole t = length-append result_names t ∙ ap (λ (n : ℕ). n + length t) names_length
+
+-- the buffer from the names on
+rest_length : (b : List ℕ) → length (take (length b - 38) (drop 38 b)) ≡ length b - 38
+rest_length b = ap length (rest_from b 38) ∙ length-drop 38 b
+
+pub returns-then-out-lt38 : goal.returns-then-out-lt38
+returns-then-out-lt38 c =
+    let l : length c.args.out.now < length (result_names ++ (printed c.args.network (lines c.args.s.now))) = omega (arith, whole (printed c.args.network (lines c.args.s.now)), c.if-out-lt38.true) in
+    refused_is _ _ (result_names ++ (printed c.args.network (lines c.args.s.now))) c.args.out.now _ c.too_short.ensures.0 c.too_short.ensures.1 refl l
+
+pub returns-then-not-fits : goal.returns-then-not-fits
+returns-then-not-fits c =
+    let l : length c.args.out.now < length (result_names ++ (printed c.args.network (lines c.args.s.now))) =
+    omega (arith, whole (printed c.args.network (lines c.args.s.now)), leb-false _ _ (sym c.fits.ensures.value ∙ c.if-not-fits.true), rest_length c.args.out.now) in
+    refused_is _ _ (result_names ++ (printed c.args.network (lines c.args.s.now))) c.args.out.now _ c.too_short-then-not-fits.ensures.0 c.too_short-then-not-fits.ensures.1
+    (back 38 c.args.out.now c.fits.new.out c.fits.ensures.out_unchanged) l
+
+pub play-p-requires : goal.play-p-requires
+unfolding result_names octets_of
+play-p-requires c =
+    let room : 38 + length (printed c.args.network (lines c.args.s.now)) ≤ length c.args.out.now =
+    omega (arith, leb-true _ _ (sym c.fits.ensures.value ∙ c.if-not-fits.false), rest_length c.args.out.now, c.if-out-lt38.false) in
+    let names : c.put.new.out ≡ over 0 result_names (take 38 c.args.out.now ++ (c.fits.new.out ++ drop (length c.args.out.now - 38) (drop 38 c.args.out.now))) = c.put.ensures in
+    let left : length (printed c.args.network (lines c.args.s.now)) ≤ length (take (length c.put.new.out - 38) (drop 38 c.put.new.out)) =
+    room_left 38 result_names (printed c.args.network (lines c.args.s.now)) c.args.out.now c.fits.new.out c.put.new.out names_length room c.fits.ensures.out_unchanged names in
+    record { network_value = c.requires; s_in_bounds = λ q. left }
+
+pub overflow_add-result : goal.overflow_add-result
+unfolding result_names octets_of
+overflow_add-result c =
+    let room : 38 + length (printed c.args.network (lines c.args.s.now)) ≤ length c.args.out.now =
+    omega (arith, leb-true _ _ (sym c.fits.ensures.value ∙ c.if-not-fits.false), rest_length c.args.out.now, c.if-out-lt38.false) in
+    let names : c.put.new.out ≡ over 0 result_names (take 38 c.args.out.now ++ (c.fits.new.out ++ drop (length c.args.out.now - 38) (drop 38 c.args.out.now))) = c.put.ensures in
+    let left : length (printed c.args.network (lines c.args.s.now)) ≤ length (take (length c.put.new.out - 38) (drop 38 c.put.new.out)) =
+    room_left 38 result_names (printed c.args.network (lines c.args.s.now)) c.args.out.now c.fits.new.out c.put.new.out names_length room c.fits.ensures.out_unchanged names in
+    let outcome = c.play-p.ensures.out_after ∙ played_fits c.args.network (lines c.args.s.now) true (take (length c.put.new.out - 38) (drop 38 c.put.new.out)) left in
+    let size : c.play-p.result.len ≡ length (printed c.args.network (lines c.args.s.now)) = ap (λ (x : Played). x.len) outcome in
+    omega (arith, size, room)
+
+pub returns : goal.returns
+unfolding result_names octets_of
+returns c =
+    let room : 38 + length (printed c.args.network (lines c.args.s.now)) ≤ length c.args.out.now =
+    omega (arith, leb-true _ _ (sym c.fits.ensures.value ∙ c.if-not-fits.false), rest_length c.args.out.now, c.if-out-lt38.false) in
+    let names : c.put.new.out ≡ over 0 result_names (take 38 c.args.out.now ++ (c.fits.new.out ++ drop (length c.args.out.now - 38) (drop 38 c.args.out.now))) = c.put.ensures in
+    let left : length (printed c.args.network (lines c.args.s.now)) ≤ length (take (length c.put.new.out - 38) (drop 38 c.put.new.out)) =
+    room_left 38 result_names (printed c.args.network (lines c.args.s.now)) c.args.out.now c.fits.new.out c.put.new.out names_length room c.fits.ensures.out_unchanged names in
+    let outcome = c.play-p.ensures.out_after ∙ played_fits c.args.network (lines c.args.s.now) true (take (length c.put.new.out - 38) (drop 38 c.put.new.out)) left in
+    let size : c.play-p.result.len ≡ length (printed c.args.network (lines c.args.s.now)) = ap (λ (x : Played). x.len) outcome in
+    let l : length (result_names ++ (printed c.args.network (lines c.args.s.now))) ≤ length c.args.out.now = omega (arith, whole (printed c.args.network (lines c.args.s.now)), room) in
+    written_is _ (result_names ++ (printed c.args.network (lines c.args.s.now))) c.args.out.now _ l (ap (λ (n : ℕ). 38 + n) size ∙ sym (whole (printed c.args.network (lines c.args.s.now))))
+    (both_written 38 result_names (printed c.args.network (lines c.args.s.now)) c.args.out.now c.fits.new.out c.put.new.out names_length room c.fits.ensures.out_unchanged names c.play-p.new.out (ap (λ (x : Played). x.buffer) outcome))
