@@ -8,8 +8,8 @@ use Rattle.network.specs.Lens.{get_in_flight}
 use Rattle.in_flight.specs.Post.{get_outbox, posted}
 use Rattle.network.proofs.LensLaws.{in_flight_kept}
 use Rattle.in_flight.proofs.Posted.{put_in, put_out, put_all}
-use Rattle.std.proofs.lemmas.Grind.{common_steps}
 use Rattle.in_flight.proofs.post.Goals as goal
+use Rattle.in_flight.proofs.post.Goals.{then-k-lt64, else-k-lt64}
 
 pub loop-i-init : goal.loop-i-init
 unfolding posted
@@ -25,10 +25,13 @@ loop-i-preserved c =
     let e = c.loop-i.invariant.1 in
     let j : t.count ≤ length t.items = omega arith in
     let m : length t.items ≡ 64 = omega arith in
-    let g : u.count ≤ length u.items = omega arith in
-    let a = put_in t o u.count u.items (get_in_flight t) i g k e j m in
-    let b = put_out t o u.count u.items (get_in_flight t) i g k e in
-    (omega arith, grind (arith, common_steps, a, b))
+    let g : u.count ≤ length u.items = omega arith in (
+      omega arith,
+      elim c.if-k-lt64.branch [
+        | then-k-lt64 w ↦ w.out-is ∙ put_in t o u.count u.items (get_in_flight t) i g k e j m w.if-k-lt64.true
+        | else-k-lt64 w ↦ w.out-is ∙ put_out t o u.count u.items (get_in_flight t) i g k e w.if-k-lt64.false
+      ],
+    )
 
 pub returns : goal.returns
 unfolding get_outbox
