@@ -1,5 +1,6 @@
 // The floor link for C and Rust: the functions that the static library exports. link/skelmarith.h declares them.
 #![tactic(auto)]
+
 mod floor;
 mod packets;
 mod point;
