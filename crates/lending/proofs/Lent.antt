@@ -1,6 +1,7 @@
 -- The walk of an exported function over a record that its caller lends, once for all of them:
 --     fn f(rec: &mut Rec, a₁, …, aₖ) -> Res { let o = g(*rec, a₁, …, aₖ); *rec = o.rec; o.res }
--- for any k arguments of any types, which are handed on as they came; and the same with a lent buffer before them. Assumes nothing.
+-- for any k arguments of any types, which are handed on as they came; and the same with a lent buffer before them. In its MIR `o.rec` goes
+-- through a local of its own on its way back into `*rec`. Assumes nothing.
 use mathlib.Core.Path.{◌≡◌, refl, ap, sym, subst}
 use Prim.Native.Nat.{ℕ, suc, ◌<◌, ◌^◌}
 use mathlib.Core.List.{[], ◌∷◌, List}
@@ -23,7 +24,6 @@ use contract.Lifetimes.{Lfts, Shares, AllOutlive, toks}
 use denote.RattleType.{RattleType, Denots, owns}
 use denote.Laws.{Is, Ises, Are, shows}
 use denote.Slice.{slice_ty, slice_val}
-use denote.Builtin.{u8}
 use denote.Ref.{MutBor, MutRef, mut_vals, mut_Tells}
 use denote.Triple.Statement.{Triple}
 use denote.Triple.Entry.{on_entry}
@@ -43,7 +43,7 @@ use denote.Struct.Cover.{Cover}
 use denote.Struct.Struct.{Plains, layout}
 use denote.Struct.Declared.{Declared, fields, shape, row, field}
 use denote.Triple.Call.{calls_from}
-use Rattle.lending.proofs.Arguments.{Spots, Words, listed, Good, envs, locals, operands, Spotted, alloc_args, pass_args, free_args, found, read_args, second, Handed, bytes_mut, struct, slots, keeps, tys, dropped, words, spelling, spelled, telling, flat_is, all_good, fit_all, have_last, go_dropped}
+use Rattle.lending.proofs.Arguments.{Spots, Words, listed, Good, envs, locals, operands, Spotted, alloc_args, pass_args, free_args, found, read_args, second, Handed, bytes_mut, slots, keeps, tys, dropped, words, spelling, spelled, telling, flat_is, all_good, fit_all, have_last, go_dropped}
 
 -- what is lent, in the order in which g asks for it
 in_order : {M : Type 1} (𝓤 : Ura M) (P Q R : SProp 𝓤) → ent 𝓤 (sep 𝓤 P (sep 𝓤 Q R)) (sep 𝓤 (sep 𝓤 Q (sep 𝓤 P R)) (emp 𝓤))
@@ -125,13 +125,14 @@ module _ (L : Lendable) where
   τ_net = ty_ref (named 0) mut (pointee Row.written)
 
   abbrev pub lent_locals : List Ty → List Local
-  lent_locals τs = local τ_res value_local ∷ local τ_net value_local ∷ locals τs (local τ_out value_local ∷ local τ_row value_local ∷ [])
+  lent_locals τs = local τ_res value_local ∷ local τ_net value_local ∷ locals τs (local τ_out value_local ∷ local τ_row value_local ∷ local τ_row value_local ∷ [])
 
-  -- io and it are the places of the outcome and of the copy of the record
-  abbrev pub lent_body : Callee → List Ty → ℕ → ℕ → Body
-  lent_body g τs io it =
+  -- io, it and iu are the places of the outcome, of the copy of the record and of the outcome's record
+  abbrev pub lent_body : Callee → List Ty → ℕ → ℕ → ℕ → Body
+  lent_body g τs io it iu =
       seq (assign (place it []) (rv_opd (copy (place 1 (deref τ_row ∷ []))))) (seq (call g (copy (place it []) ∷ operands 2 τs) (place io []))
-      (seq (assign (place 1 (deref τ_row ∷ [])) (rv_opd (copy (place io (fieldᴾ 0 ∷ []))))) (seq (assign (place 0 []) (rv_opd (copy (place io (fieldᴾ 1 ∷ []))))) return)))
+      (seq (assign (place iu []) (rv_opd (copy (place io (fieldᴾ 0 ∷ []))))) (seq (assign (place 1 (deref τ_row ∷ [])) (rv_opd (copy (place iu []))))
+      (seq (assign (place 0 []) (rv_opd (copy (place io (fieldᴾ 1 ∷ []))))) return))))
 
   -- the same with a `&mut [u8]` before the other arguments, which is lent on: ip and is are the places of its pointer and of the slice
   abbrev τ_part : Ty
@@ -141,103 +142,109 @@ module _ (L : Lendable) where
   τ_buf j = slice_ty (ty_ref (named j) mut (ty_int w8))
 
   abbrev pub buf_locals : ℕ → List Ty → List Local
-  buf_locals j τs = local τ_res value_local ∷ local τ_net value_local ∷ local (τ_buf j) value_local ∷ locals τs (local τ_out value_local ∷ local τ_row value_local ∷ local τ_part value_local ∷ local (slice_ty τ_part) value_local ∷ [])
+  buf_locals j τs = local τ_res value_local ∷ local τ_net value_local ∷ local (τ_buf j) value_local ∷ locals τs (local τ_out value_local ∷ local τ_row value_local ∷ local τ_part value_local ∷ local (slice_ty τ_part) value_local ∷ local τ_row value_local ∷ [])
 
-  abbrev pub buf_body : Callee → List Ty → ℕ → ℕ → ℕ → ℕ → Body
-  buf_body g τs io it ip is =
+  abbrev pub buf_body : Callee → List Ty → ℕ → ℕ → ℕ → ℕ → ℕ → Body
+  buf_body g τs io it ip is iu =
       seq (assign (place it []) (rv_opd (copy (place 1 (deref τ_row ∷ []))))) (seq (assign (place ip []) (addr_of (place 2 (fieldᴾ 0 ∷ deref (ty_int w8) ∷ []))))
       (seq (assign (place is []) (aggregate (copy (place ip []) ∷ copy (place 2 (fieldᴾ 1 ∷ [])) ∷ []))) (seq (call g (copy (place it []) ∷ copy (place is []) ∷ operands 3 τs) (place io []))
-      (seq (assign (place 1 (deref τ_row ∷ [])) (rv_opd (copy (place io (fieldᴾ 0 ∷ []))))) (seq (assign (place 0 []) (rv_opd (copy (place io (fieldᴾ 1 ∷ []))))) return)))))
+      (seq (assign (place iu []) (rv_opd (copy (place io (fieldᴾ 0 ∷ []))))) (seq (assign (place 1 (deref τ_row ∷ [])) (rv_opd (copy (place iu []))))
+      (seq (assign (place 0 []) (rv_opd (copy (place io (fieldᴾ 1 ∷ []))))) return))))))
 
   module _ {M : Type 1} {𝓤 : Ura M} (𝓛 : Logic 𝓤) where
     open 𝓛 use {H}
 
-    abbrev pub lent_env : (τs : List Ty) → ℕ → ℕ → Spots τs → ℕ → ℕ → Env 𝓤 H
-    lent_env τs l₀ l₁ bs lo lt = (τ_res, l₀) ∷ (τ_net, l₁) ∷ envs τs bs ((τ_out, lo) ∷ (τ_row, lt) ∷ [])
+    abbrev pub lent_env : (τs : List Ty) → ℕ → ℕ → Spots τs → ℕ → ℕ → ℕ → Env 𝓤 H
+    lent_env τs l₀ l₁ bs lo lt lu = (τ_res, l₀) ∷ (τ_net, l₁) ∷ envs τs bs ((τ_out, lo) ∷ (τ_row, lt) ∷ (τ_row, lu) ∷ [])
 
     -- where the locals stand: `refl`s, for any list of types that is written out
-    abbrev pub Placed : List Ty → ℕ → ℕ → Type 0
-    Placed τs io it = (l₀ l₁ : ℕ) (bs : Spots τs) (lo lt : ℕ)
-        → (get_or (lent_env τs l₀ l₁ bs lo lt) io (no_local 𝓤 H) ≡ (τ_out, lo)) × ((get_or (lent_env τs l₀ l₁ bs lo lt) it (no_local 𝓤 H) ≡ (τ_row, lt)) × Spotted (no_local 𝓤 H) (lent_env τs l₀ l₁ bs lo lt) 2 τs bs)
+    abbrev pub Placed : List Ty → ℕ → ℕ → ℕ → Type 0
+    Placed τs io it iu = (l₀ l₁ : ℕ) (bs : Spots τs) (lo lt lu : ℕ)
+        → (get_or (lent_env τs l₀ l₁ bs lo lt lu) io (no_local 𝓤 H) ≡ (τ_out, lo)) × ((get_or (lent_env τs l₀ l₁ bs lo lt lu) it (no_local 𝓤 H) ≡ (τ_row, lt))
+        × ((get_or (lent_env τs l₀ l₁ bs lo lt lu) iu (no_local 𝓤 H) ≡ (τ_row, lu)) × Spotted (no_local 𝓤 H) (lent_env τs l₀ l₁ bs lo lt lu) 2 τs bs))
 
     -- what g leaves: what it hands back, the outcome, and what it ensures
     abbrev pub After : Item 𝓤 → (Res → SProp 𝓤) → Val → Item 𝓤
     After back En v = later (some (λ (r : Res). (back ⊛ ‵ (Out.own_val r (v ∷ []))) ⊛ raw (En r)))
 
-    pub lend : (C : Calls 𝓤 H) (Λ : Loops 𝓤 H) → FmC 𝓤 H 𝓛.laws C → (g : Callee) (τs : List Ty) (us : Words τs) → Good τs us → (io it : ℕ) → Placed τs io it
+    pub lend : (C : Calls 𝓤 H) (Λ : Loops 𝓤 H) → FmC 𝓤 H 𝓛.laws C → (g : Callee) (τs : List Ty) (us : Words τs) → Good τs us → (io it iu : ℕ) → Placed τs io it iu
         → (κ : Lft) (q : Share) (b o : ℕ) (γ : GName) (h : Rec) (give back : Item 𝓤) (En : Res → SProp 𝓤) (Post : Val → SProp 𝓤)
         → (Is Row h (mach h ∷ []) → ent 𝓤 (mean 𝓛 (‵ (Row.own_val h (mach h ∷ [])) ⊛ give)) (C g (mach h ∷ listed τs us) (λ v. mean 𝓛 (After back En v))))
         → ((r : Res) → Is Result (L.result r) (mach_res (L.result r) ∷ []) → ent 𝓤 (⋆ 𝓛 (‵ (fobs γ (Row.coded.code (L.rec r))) ∷ ‵ (fbor κ (Inside (mem Row) b o γ)) ∷ ‵ (flft κ q) ∷ (back ⊛ raw (En r)) ∷ [])) (Post (mach_res (L.result r))))
         → Sq 𝓛 (‵ (fobs γ (Row.coded.code h)) ∷ ‵ (fbor κ (Inside (mem Row) b o γ)) ∷ ‵ (flft κ q) ∷ give ∷ [])
-        (allocs (lent_locals τs) (λ E. params' E (vptr b o ∷ listed τs us) (runs C Λ E (lent_body g τs io it) (at_ret E Post))))
-    lend C Λ fm g τs us good io it placed κ q b o γ h give back En Post met exits =
-        alloc1 ! (λ l₀. alloc1 ! (λ l₁. alloc_args 𝓛 τs (λ bs. alloc1 ! (λ lo. alloc1 ! (λ lt. alloc0 ! $ params1 ! $
-        -- [_t; …; _o; …; the arguments' rooms; _1; …; _0; …; obs; the borrow; the token; give]
-        pass1 ! (init ! 5 refl (tt, tt)) $ move ! (4 ∷ []) $ pass_args 𝓛 τs bs us good ((τ_out, lo) ∷ (τ_row, lt) ∷ []) (
-        -- [the arguments' cells; _t; …; _o; …; _1; …; _0; …; obs; the borrow; the token; give]
-        move ! (9 ∷ 10 ∷ 11 ∷ []) $ opens ! tt Row {h = h} b o (λ vs. spelt ! Row (Is Row) (shows 𝓛 Row) (LL.vals L.N L.laws) (LL.tells L.N L.laws) full_share h vs b o $
+        (allocs (lent_locals τs) (λ E. params' E (vptr b o ∷ listed τs us) (runs C Λ E (lent_body g τs io it iu) (at_ret E Post))))
+    lend C Λ fm g τs us good io it iu placed κ q b o γ h give back En Post met exits =
+        alloc1 ! (λ l₀. alloc1 ! (λ l₁. alloc_args 𝓛 τs (λ bs. alloc1 ! (λ lo. alloc1 ! (λ lt. alloc1 ! (λ lu. alloc0 ! $ params1 ! $
+        -- [_u; …; _t; …; _o; …; the arguments' rooms; _1; …; _0; …; obs; the borrow; the token; give]
+        pass1 ! (init ! 7 refl (tt, tt)) $ move ! (6 ∷ []) $ pass_args 𝓛 τs bs us good ((τ_out, lo) ∷ (τ_row, lt) ∷ (τ_row, lu) ∷ []) (
+        -- [the arguments' cells; _u; …; _t; …; _o; …; _1; …; _0; …; obs; the borrow; the token; give]
+        move ! (11 ∷ 12 ∷ 13 ∷ []) $ opens ! tt Row {h = h} b o (λ vs. spelt ! Row (Is Row) (shows 𝓛 Row) (LL.vals L.N L.laws) (LL.tells L.N L.laws) full_share h vs b o $
         move ! (1 ∷ []) $ peeks ! Row (Is Row) (shows 𝓛 Row) h (mach h ∷ []) (λ was. move ! (1 ∷ 0 ∷ []) $
-        -- [the cell; what a Rec owns; the open borrow; obs; auth; the arguments' cells 5; _t 6; …; _o 8; …; _1 10; …; _0 12; …; give 14]
-        assigns ! (of_opd ! (load ! (from ! (hop ! (look ! 10 refl) (stop !))) (look_raw ! 0 refl))) (found 𝓛 (placed l₀ l₁ bs lo lt).1.0 (stop !)) (init ! 6 refl ((LL.lawful L.N L.laws 𝓛).typed h _ was).0) $
-        move ! (1 ∷ 14 ∷ []) $ join ! $ move ! (0 ∷ 5 ∷ []) $
-        -- [what is handed to g; the arguments' cells; the cell 2; the open borrow; obs; auth; _t 6; …; _o 8; …; _1 10; …; _0 12; …]
+        -- [the cell; what a Rec owns; the open borrow; obs; auth; the arguments' cells 5; _u 6; …; _t 8; …; _o 10; …; _1 12; …; _0 14; …; give 16]
+        assigns ! (of_opd ! (load ! (from ! (hop ! (look ! 12 refl) (stop !))) (look_raw ! 0 refl))) (found 𝓛 (placed l₀ l₁ bs lo lt lu).1.0 (stop !)) (init ! 8 refl ((LL.lawful L.N L.laws 𝓛).typed h _ was).0) $
+        move ! (1 ∷ 16 ∷ []) $ join ! $ move ! (0 ∷ 5 ∷ []) $
+        -- [what is handed to g; the arguments' cells; the cell 2; the open borrow; obs; auth; _u 6; …; _t 8; …; _o 10; …; _1 12; …; _0 14; …]
         calls_from ! fm (‵ (Row.own_val h (mach h ∷ [])) ⊛ give) (mach h ∷ listed τs us) (λ v. mean 𝓛 (After back En v)) (met was)
-        (and_then ! (load ! (found 𝓛 (placed l₀ l₁ bs lo lt).1.0 (stop !)) (look ! 6 refl)) (second 𝓛 (read_args 𝓛 τs bs us 2 (placed l₀ l₁ bs lo lt).1.1))) (λ v.
+        (and_then ! (load ! (found 𝓛 (placed l₀ l₁ bs lo lt lu).1.0 (stop !)) (look ! 8 refl)) (second 𝓛 (read_args 𝓛 τs bs us 2 (placed l₀ l₁ bs lo lt lu).1.1.1))) (λ v.
         use1 𝓛 (After back En v) (id⊢ 𝓤 _) $ await ! tt $ pick ! (λ r.
         split ! $ split ! $ move ! (0 ∷ 2 ∷ []) $ join ! $ move ! (1 ∷ []) $ peeks ! Out (Is Out) (shows 𝓛 Out) r (v ∷ []) (λ is.
-        -- [what the Res owns; back; the arguments' cells; the cell 3; the open borrow; obs; auth; _t 7; …; _o 9; …; _1 11; …; _0 13; …]
-        land ! (found 𝓛 (placed l₀ l₁ bs lo lt).0 (stop !)) (init ! 9 refl ((LL.lawful (outcome L) (outcome_laws L) 𝓛).typed r _ is).0) $
-        rewrite ! 9 (λ (u : Val). ‵ (fat full_share τ_out lo 0 u)) (ap only (LL.tells (outcome L) (outcome_laws L) r (v ∷ []) is)) refl $
-        assigns ! (of_opd ! (load ! (found 𝓛 (placed l₀ l₁ bs lo lt).0 (fld ! refl (stop !))) (look_in ! 9 (sub ! 0 refl (whole !))))) (from ! (hop ! (look ! 11 refl) (stop !)))
+        -- [what the Res owns; back; the arguments' cells; the cell 3; the open borrow; obs; auth; _u 7; …; _t 9; …; _o 11; …; _1 13; …; _0 15; …]
+        land ! (found 𝓛 (placed l₀ l₁ bs lo lt lu).0 (stop !)) (init ! 11 refl ((LL.lawful (outcome L) (outcome_laws L) 𝓛).typed r _ is).0) $
+        rewrite ! 11 (λ (u : Val). ‵ (fat full_share τ_out lo 0 u)) (ap only (LL.tells (outcome L) (outcome_laws L) r (v ∷ []) is)) refl $
+        assigns ! (of_opd ! (load ! (found 𝓛 (placed l₀ l₁ bs lo lt lu).0 (fld ! refl (stop !))) (look_in ! 11 (sub ! 0 refl (whole !))))) (found 𝓛 (placed l₀ l₁ bs lo lt lu).1.1.0 (stop !))
+        (init ! 7 refl ((LL.lawful L.N L.laws 𝓛).typed (L.rec r) _ (LL.owed (outcome L) (outcome_laws L) r _ is).0).0) $
+        assigns ! (of_opd ! (load ! (found 𝓛 (placed l₀ l₁ bs lo lt lu).1.1.0 (stop !)) (look ! 7 refl))) (from ! (hop ! (look ! 13 refl) (stop !)))
         (store_raw ! 3 refl ((LL.lawful L.N L.laws 𝓛).typed (L.rec r) _ (LL.owed (outcome L) (outcome_laws L) r _ is).0).0) $
-        assigns ! (of_opd ! (load ! (found 𝓛 (placed l₀ l₁ bs lo lt).0 (fld ! refl (stop !))) (look_in ! 9 (sub ! 1 refl (whole !))))) (from ! (stop !)) (init ! 13 refl ((LL.lawful L.R L.result_laws 𝓛).typed (L.result r) _ (LL.owed (outcome L) (outcome_laws L) r _ is).1.0).0) $
+        assigns ! (of_opd ! (load ! (found 𝓛 (placed l₀ l₁ bs lo lt lu).0 (fld ! refl (stop !))) (look_in ! 11 (sub ! 1 refl (whole !))))) (from ! (stop !)) (init ! 15 refl ((LL.lawful L.R L.result_laws 𝓛).typed (L.result r) _ (LL.owed (outcome L) (outcome_laws L) r _ is).1.0).0) $
         drop ! $ owned ! Row (Is Row) (LL.makes L.N L.plains 𝓛) (L.rec r) _ (LL.owed (outcome L) (outcome_laws L) r _ is).0 $
         move ! (3 ∷ 0 ∷ 4 ∷ 5 ∷ 6 ∷ []) $ closes ! tt Row (L.rec r) (mach (L.rec r) ∷ []) b o $
-        -- [obs; the borrow; the token; back; the arguments' cells 4; _t 5; …; _o 7; …; _1 9; …; _0 11; …]
-        returns ! (look ! 11 refl) $ forget ! 5 refl $ forget ! 7 refl $ forget ! 9 refl $ forget ! 11 refl $ move ! (11 ∷ 12 ∷ []) $ free1 ! $ move ! (9 ∷ 10 ∷ []) $ free1 ! $
-        move ! (4 ∷ []) $ free_args 𝓛 τs bs us (move ! (6 ∷ 7 ∷ []) $ free1 ! $ move ! (4 ∷ 5 ∷ []) $ free1 ! $ free0 ! $ by ! (exits r (LL.owed (outcome L) (outcome_laws L) r _ is).1.0)))))))))))))
+        -- [obs; the borrow; the token; back; the arguments' cells 4; _u 5; …; _t 7; …; _o 9; …; _1 11; …; _0 13; …]
+        returns ! (look ! 13 refl) $ forget ! 5 refl $ forget ! 7 refl $ forget ! 9 refl $ forget ! 11 refl $ forget ! 13 refl $ move ! (13 ∷ 14 ∷ []) $ free1 ! $ move ! (11 ∷ 12 ∷ []) $ free1 ! $
+        move ! (4 ∷ []) $ free_args 𝓛 τs bs us (move ! (8 ∷ 9 ∷ []) $ free1 ! $ move ! (6 ∷ 7 ∷ []) $ free1 ! $ move ! (4 ∷ 5 ∷ []) $ free1 ! $ free0 ! $ by ! (exits r (LL.owed (outcome L) (outcome_laws L) r _ is).1.0))))))))))))))
 
-    abbrev pub buf_env : (j : ℕ) (τs : List Ty) → ℕ → ℕ → ℕ → Spots τs → ℕ → ℕ → ℕ → ℕ → Env 𝓤 H
-    buf_env j τs l₀ l₁ lb bs lo lt lp ls = (τ_res, l₀) ∷ (τ_net, l₁) ∷ (τ_buf j, lb) ∷ envs τs bs ((τ_out, lo) ∷ (τ_row, lt) ∷ (τ_part, lp) ∷ (slice_ty τ_part, ls) ∷ [])
+    abbrev pub buf_env : (j : ℕ) (τs : List Ty) → ℕ → ℕ → ℕ → Spots τs → ℕ → ℕ → ℕ → ℕ → ℕ → Env 𝓤 H
+    buf_env j τs l₀ l₁ lb bs lo lt lp ls lu = (τ_res, l₀) ∷ (τ_net, l₁) ∷ (τ_buf j, lb) ∷ envs τs bs ((τ_out, lo) ∷ (τ_row, lt) ∷ (τ_part, lp) ∷ (slice_ty τ_part, ls) ∷ (τ_row, lu) ∷ [])
 
-    abbrev pub Buf-placed : ℕ → List Ty → ℕ → ℕ → ℕ → ℕ → Type 0
-    Buf-placed j τs io it ip is = (l₀ l₁ lb : ℕ) (bs : Spots τs) (lo lt lp ls : ℕ)
-        → (get_or (buf_env j τs l₀ l₁ lb bs lo lt lp ls) io (no_local 𝓤 H) ≡ (τ_out, lo)) × ((get_or (buf_env j τs l₀ l₁ lb bs lo lt lp ls) it (no_local 𝓤 H) ≡ (τ_row, lt)) × ((get_or (buf_env j τs l₀ l₁ lb bs lo lt lp ls) ip (no_local 𝓤 H) ≡ (τ_part, lp))
-        × ((get_or (buf_env j τs l₀ l₁ lb bs lo lt lp ls) is (no_local 𝓤 H) ≡ (slice_ty τ_part, ls)) × Spotted (no_local 𝓤 H) (buf_env j τs l₀ l₁ lb bs lo lt lp ls) 3 τs bs)))
+    abbrev pub Buf-placed : ℕ → List Ty → ℕ → ℕ → ℕ → ℕ → ℕ → Type 0
+    Buf-placed j τs io it ip is iu = (l₀ l₁ lb : ℕ) (bs : Spots τs) (lo lt lp ls lu : ℕ)
+        → (get_or (buf_env j τs l₀ l₁ lb bs lo lt lp ls lu) io (no_local 𝓤 H) ≡ (τ_out, lo)) × ((get_or (buf_env j τs l₀ l₁ lb bs lo lt lp ls lu) it (no_local 𝓤 H) ≡ (τ_row, lt)) × ((get_or (buf_env j τs l₀ l₁ lb bs lo lt lp ls lu) ip (no_local 𝓤 H) ≡ (τ_part, lp))
+        × ((get_or (buf_env j τs l₀ l₁ lb bs lo lt lp ls lu) is (no_local 𝓤 H) ≡ (slice_ty τ_part, ls)) × ((get_or (buf_env j τs l₀ l₁ lb bs lo lt lp ls lu) iu (no_local 𝓤 H) ≡ (τ_row, lu)) × Spotted (no_local 𝓤 H) (buf_env j τs l₀ l₁ lb bs lo lt lp ls lu) 3 τs bs))))
 
-    pub lend_buf : (C : Calls 𝓤 H) (Λ : Loops 𝓤 H) → FmC 𝓤 H 𝓛.laws C → (g : Callee) (j : ℕ) (τs : List Ty) (pb : ℕ × ℕ) (n : ℕ) → n < 2 ^ 64 → (us : Words τs) → Good τs us → (io it ip is : ℕ) → Buf-placed j τs io it ip is
+    pub lend_buf : (C : Calls 𝓤 H) (Λ : Loops 𝓤 H) → FmC 𝓤 H 𝓛.laws C → (g : Callee) (j : ℕ) (τs : List Ty) (pb : ℕ × ℕ) (n : ℕ) → n < 2 ^ 64 → (us : Words τs) → Good τs us → (io it ip is iu : ℕ) → Buf-placed j τs io it ip is iu
         → (κ : Lft) (q : Share) (b o : ℕ) (γ : GName) (h : Rec) (give back : Item 𝓤) (En : Res → SProp 𝓤) (Post : Val → SProp 𝓤)
         → (Is Row h (mach h ∷ []) → ent 𝓤 (mean 𝓛 (‵ (Row.own_val h (mach h ∷ [])) ⊛ give)) (C g (mach h ∷ slice_val pb n ∷ listed τs us) (λ v. mean 𝓛 (After back En v))))
         → ((r : Res) → Is Result (L.result r) (mach_res (L.result r) ∷ []) → ent 𝓤 (⋆ 𝓛 (‵ (fobs γ (Row.coded.code (L.rec r))) ∷ ‵ (fbor κ (Inside (mem Row) b o γ)) ∷ ‵ (flft κ q) ∷ (back ⊛ raw (En r)) ∷ [])) (Post (mach_res (L.result r))))
         → Sq 𝓛 (‵ (fobs γ (Row.coded.code h)) ∷ ‵ (fbor κ (Inside (mem Row) b o γ)) ∷ ‵ (flft κ q) ∷ give ∷ [])
-        (allocs (buf_locals j τs) (λ E. params' E (vptr b o ∷ slice_val pb n ∷ listed τs us) (runs C Λ E (buf_body g τs io it ip is) (at_ret E Post))))
-    lend_buf C Λ fm g j τs pb n n-fits us good io it ip is placed κ q b o γ h give back En Post met exits =
-        alloc1 ! (λ l₀. alloc1 ! (λ l₁. alloc1 ! (λ lb. alloc_args 𝓛 τs (λ bs. alloc1 ! (λ lo. alloc1 ! (λ lt. alloc1 ! (λ lp. alloc1 ! (λ ls. alloc0 ! $ params1 ! $
-        pass1 ! (init ! 11 refl (tt, tt)) $ pass1 ! (init ! 9 refl (tt, (tt, (record { fits = n-fits }, tt)))) $ move ! (8 ∷ []) $ pass_args 𝓛 τs bs us good ((τ_out, lo) ∷ (τ_row, lt) ∷ (τ_part, lp) ∷ (slice_ty τ_part, ls) ∷ []) (
-        move ! (15 ∷ 16 ∷ 17 ∷ []) $ opens ! tt Row {h = h} b o (λ vs. spelt ! Row (Is Row) (shows 𝓛 Row) (LL.vals L.N L.laws) (LL.tells L.N L.laws) full_share h vs b o $
+        (allocs (buf_locals j τs) (λ E. params' E (vptr b o ∷ slice_val pb n ∷ listed τs us) (runs C Λ E (buf_body g τs io it ip is iu) (at_ret E Post))))
+    lend_buf C Λ fm g j τs pb n n-fits us good io it ip is iu placed κ q b o γ h give back En Post met exits =
+        alloc1 ! (λ l₀. alloc1 ! (λ l₁. alloc1 ! (λ lb. alloc_args 𝓛 τs (λ bs. alloc1 ! (λ lo. alloc1 ! (λ lt. alloc1 ! (λ lp. alloc1 ! (λ ls. alloc1 ! (λ lu. alloc0 ! $ params1 ! $
+        pass1 ! (init ! 13 refl (tt, tt)) $ pass1 ! (init ! 11 refl (tt, (tt, (record { fits = n-fits }, tt)))) $ move ! (10 ∷ []) $ pass_args 𝓛 τs bs us good ((τ_out, lo) ∷ (τ_row, lt) ∷ (τ_part, lp) ∷ (slice_ty τ_part, ls) ∷ (τ_row, lu) ∷ []) (
+        move ! (17 ∷ 18 ∷ 19 ∷ []) $ opens ! tt Row {h = h} b o (λ vs. spelt ! Row (Is Row) (shows 𝓛 Row) (LL.vals L.N L.laws) (LL.tells L.N L.laws) full_share h vs b o $
         move ! (1 ∷ []) $ peeks ! Row (Is Row) (shows 𝓛 Row) h (mach h ∷ []) (λ was. move ! (1 ∷ 0 ∷ []) $
-        -- [the cell; what is owned; the open borrow; obs; auth; the arguments' cells 5; _s 6; …; _p 8; …; _t 10; …; _o 12; …; _b 14; …; _1 16; …; _0 18; …; give 20]
-        assigns ! (of_opd ! (load ! (from ! (hop ! (look ! 16 refl) (stop !))) (look_raw ! 0 refl))) (found 𝓛 (placed l₀ l₁ lb bs lo lt lp ls).1.0 (stop !)) (init ! 10 refl ((LL.lawful L.N L.laws 𝓛).typed h _ was).0) $
-        assigns ! (addr ! (from ! (fld ! refl (hop ! (look_in ! 14 (sub ! 0 refl (whole !))) (stop !))))) (found 𝓛 (placed l₀ l₁ lb bs lo lt lp ls).1.1.0 (stop !)) (init ! 8 refl (tt, tt)) $
-        assigns ! (agg ! (and_then ! (load ! (found 𝓛 (placed l₀ l₁ lb bs lo lt lp ls).1.1.0 (stop !)) (look ! 8 refl)) (and_then ! (load ! (from ! (fld ! refl (stop !))) (look_in ! 14 (sub ! 1 refl (whole !)))) (no_more !))))
-        (found 𝓛 (placed l₀ l₁ lb bs lo lt lp ls).1.1.1.0 (stop !)) (init ! 6 refl (tt, (tt, (record { fits = n-fits }, tt)))) $
-        move ! (1 ∷ 20 ∷ []) $ join ! $ move ! (0 ∷ 5 ∷ []) $
-        -- [what is handed to g; the arguments' cells; the cell 2; the open borrow; obs; auth; _s 6; …; _p 8; …; _t 10; …; _o 12; …; _b 14; …; _1 16; …; _0 18; …]
+        -- [the cell; what is owned; the open borrow; obs; auth; the arguments' cells 5; _u 6; …; _s 8; …; _p 10; …; _t 12; …; _o 14; …; _b 16; …; _1 18; …; _0 20; …; give 22]
+        assigns ! (of_opd ! (load ! (from ! (hop ! (look ! 18 refl) (stop !))) (look_raw ! 0 refl))) (found 𝓛 (placed l₀ l₁ lb bs lo lt lp ls lu).1.0 (stop !)) (init ! 12 refl ((LL.lawful L.N L.laws 𝓛).typed h _ was).0) $
+        assigns ! (addr ! (from ! (fld ! refl (hop ! (look_in ! 16 (sub ! 0 refl (whole !))) (stop !))))) (found 𝓛 (placed l₀ l₁ lb bs lo lt lp ls lu).1.1.0 (stop !)) (init ! 10 refl (tt, tt)) $
+        assigns ! (agg ! (and_then ! (load ! (found 𝓛 (placed l₀ l₁ lb bs lo lt lp ls lu).1.1.0 (stop !)) (look ! 10 refl)) (and_then ! (load ! (from ! (fld ! refl (stop !))) (look_in ! 16 (sub ! 1 refl (whole !)))) (no_more !))))
+        (found 𝓛 (placed l₀ l₁ lb bs lo lt lp ls lu).1.1.1.0 (stop !)) (init ! 8 refl (tt, (tt, (record { fits = n-fits }, tt)))) $
+        move ! (1 ∷ 22 ∷ []) $ join ! $ move ! (0 ∷ 5 ∷ []) $
+        -- [what is handed to g; the arguments' cells; the cell 2; the open borrow; obs; auth; _u 6; …; _s 8; …; _p 10; …; _t 12; …; _o 14; …; _b 16; …; _1 18; …; _0 20; …]
         calls_from ! fm (‵ (Row.own_val h (mach h ∷ [])) ⊛ give) (mach h ∷ slice_val pb n ∷ listed τs us) (λ v. mean 𝓛 (After back En v)) (met was)
-        (and_then ! (load ! (found 𝓛 (placed l₀ l₁ lb bs lo lt lp ls).1.0 (stop !)) (look ! 10 refl)) (and_then ! (load ! (found 𝓛 (placed l₀ l₁ lb bs lo lt lp ls).1.1.1.0 (stop !)) (look ! 6 refl)) (second 𝓛 (read_args 𝓛 τs bs us 3 (placed l₀ l₁ lb bs lo lt lp ls).1.1.1.1)))) (λ v.
+        (and_then ! (load ! (found 𝓛 (placed l₀ l₁ lb bs lo lt lp ls lu).1.0 (stop !)) (look ! 12 refl)) (and_then ! (load ! (found 𝓛 (placed l₀ l₁ lb bs lo lt lp ls lu).1.1.1.0 (stop !)) (look ! 8 refl)) (second 𝓛 (read_args 𝓛 τs bs us 3 (placed l₀ l₁ lb bs lo lt lp ls lu).1.1.1.1.1)))) (λ v.
         use1 𝓛 (After back En v) (id⊢ 𝓤 _) $ await ! tt $ pick ! (λ r.
         split ! $ split ! $ move ! (0 ∷ 2 ∷ []) $ join ! $ move ! (1 ∷ []) $ peeks ! Out (Is Out) (shows 𝓛 Out) r (v ∷ []) (λ ok.
-        -- [what the outcome owns; back; the arguments' cells; the cell 3; the open borrow; obs; auth; _s 7; …; _p 9; …; _t 11; …; _o 13; …; _b 15; …; _1 17; …; _0 19; …]
-        land ! (found 𝓛 (placed l₀ l₁ lb bs lo lt lp ls).0 (stop !)) (init ! 13 refl ((LL.lawful (outcome L) (outcome_laws L) 𝓛).typed r _ ok).0) $
-        rewrite ! 13 (λ (u : Val). ‵ (fat full_share τ_out lo 0 u)) (ap only (LL.tells (outcome L) (outcome_laws L) r (v ∷ []) ok)) refl $
-        assigns ! (of_opd ! (load ! (found 𝓛 (placed l₀ l₁ lb bs lo lt lp ls).0 (fld ! refl (stop !))) (look_in ! 13 (sub ! 0 refl (whole !))))) (from ! (hop ! (look ! 17 refl) (stop !)))
+        -- [what the outcome owns; back; the arguments' cells; the cell 3; the open borrow; obs; auth; _u 7; …; _s 9; …; _p 11; …; _t 13; …; _o 15; …; _b 17; …; _1 19; …; _0 21; …]
+        land ! (found 𝓛 (placed l₀ l₁ lb bs lo lt lp ls lu).0 (stop !)) (init ! 15 refl ((LL.lawful (outcome L) (outcome_laws L) 𝓛).typed r _ ok).0) $
+        rewrite ! 15 (λ (u : Val). ‵ (fat full_share τ_out lo 0 u)) (ap only (LL.tells (outcome L) (outcome_laws L) r (v ∷ []) ok)) refl $
+        assigns ! (of_opd ! (load ! (found 𝓛 (placed l₀ l₁ lb bs lo lt lp ls lu).0 (fld ! refl (stop !))) (look_in ! 15 (sub ! 0 refl (whole !))))) (found 𝓛 (placed l₀ l₁ lb bs lo lt lp ls lu).1.1.1.1.0 (stop !))
+        (init ! 7 refl ((LL.lawful L.N L.laws 𝓛).typed (L.rec r) _ (LL.owed (outcome L) (outcome_laws L) r _ ok).0).0) $
+        assigns ! (of_opd ! (load ! (found 𝓛 (placed l₀ l₁ lb bs lo lt lp ls lu).1.1.1.1.0 (stop !)) (look ! 7 refl))) (from ! (hop ! (look ! 19 refl) (stop !)))
         (store_raw ! 3 refl ((LL.lawful L.N L.laws 𝓛).typed (L.rec r) _ (LL.owed (outcome L) (outcome_laws L) r _ ok).0).0) $
-        assigns ! (of_opd ! (load ! (found 𝓛 (placed l₀ l₁ lb bs lo lt lp ls).0 (fld ! refl (stop !))) (look_in ! 13 (sub ! 1 refl (whole !))))) (from ! (stop !)) (init ! 19 refl ((LL.lawful L.R L.result_laws 𝓛).typed (L.result r) _ (LL.owed (outcome L) (outcome_laws L) r _ ok).1.0).0) $
+        assigns ! (of_opd ! (load ! (found 𝓛 (placed l₀ l₁ lb bs lo lt lp ls lu).0 (fld ! refl (stop !))) (look_in ! 15 (sub ! 1 refl (whole !))))) (from ! (stop !)) (init ! 21 refl ((LL.lawful L.R L.result_laws 𝓛).typed (L.result r) _ (LL.owed (outcome L) (outcome_laws L) r _ ok).1.0).0) $
         drop ! $ owned ! Row (Is Row) (LL.makes L.N L.plains 𝓛) (L.rec r) _ (LL.owed (outcome L) (outcome_laws L) r _ ok).0 $
         move ! (3 ∷ 0 ∷ 4 ∷ 5 ∷ 6 ∷ []) $ closes ! tt Row (L.rec r) (mach (L.rec r) ∷ []) b o $
-        returns ! (look ! 17 refl) $ forget ! 5 refl $ forget ! 7 refl $ forget ! 9 refl $ forget ! 11 refl $ forget ! 13 refl $ forget ! 15 refl $ forget ! 17 refl $
-        move ! (17 ∷ 18 ∷ []) $ free1 ! $ move ! (15 ∷ 16 ∷ []) $ free1 ! $ move ! (13 ∷ 14 ∷ []) $ free1 ! $ move ! (4 ∷ []) $ free_args 𝓛 τs bs us (
-        move ! (10 ∷ 11 ∷ []) $ free1 ! $ move ! (8 ∷ 9 ∷ []) $ free1 ! $ move ! (6 ∷ 7 ∷ []) $ free1 ! $ move ! (4 ∷ 5 ∷ []) $ free1 ! $ free0 ! $ by ! (exits r (LL.owed (outcome L) (outcome_laws L) r _ ok).1.0))))))))))))))))
+        returns ! (look ! 19 refl) $ forget ! 5 refl $ forget ! 7 refl $ forget ! 9 refl $ forget ! 11 refl $ forget ! 13 refl $ forget ! 15 refl $ forget ! 17 refl $ forget ! 19 refl $
+        move ! (19 ∷ 20 ∷ []) $ free1 ! $ move ! (17 ∷ 18 ∷ []) $ free1 ! $ move ! (15 ∷ 16 ∷ []) $ free1 ! $ move ! (4 ∷ []) $ free_args 𝓛 τs bs us (
+        move ! (12 ∷ 13 ∷ []) $ free1 ! $ move ! (10 ∷ 11 ∷ []) $ free1 ! $ move ! (8 ∷ 9 ∷ []) $ free1 ! $ move ! (6 ∷ 7 ∷ []) $ free1 ! $ move ! (4 ∷ 5 ∷ []) $ free1 ! $ free0 ! $ by ! (exits r (LL.owed (outcome L) (outcome_laws L) r _ ok).1.0)))))))))))))))))
 
   -- ---- the exported function's contract
   module _ (m : ℕ) (hs : List (Handed (suc m))) where
@@ -247,8 +254,8 @@ module _ (L : Lendable) where
     abbrev τs : List Ty
     τs = tys hs
 
-    abbrev pub lent_fn : Callee → ℕ → ℕ → ℕ → Fn
-    lent_fn g p io it = record { lifetimes = suc m; outlives = []; ty_params = []; givens = 0; params = p; locals = lent_locals τs; body = lent_body g τs io it }
+    abbrev pub lent_fn : Callee → ℕ → ℕ → ℕ → ℕ → Fn
+    lent_fn g p io it iu = record { lifetimes = suc m; outlives = []; ty_params = []; givens = 0; params = p; locals = lent_locals τs; body = lent_body g τs io it iu }
 
     abbrev Types : Lfts (suc m) → List RattleType
     Types κs = types_at (slots hs) κs
@@ -262,8 +269,8 @@ module _ (L : Lendable) where
         → Sq 𝓛 (‵ (fobs γ (Row.coded.code h)) ∷ ‵ (fbor κ (Inside (mem Row) b o γ)) ∷ ‵ (flft κ q) ∷ give ∷ [])
         (allocs fn.locals (λ E. params' E (vptr b o ∷ listed τs (words κs hs a)) (runs C Λ E fn.body (at_ret E Post))))
 
-    pub by_value : {M : Type 1} {𝓤 : Ura M} (𝓛 : Logic 𝓤) (g : Callee) (p io it : ℕ) → Placed 𝓛 τs io it → Ran 𝓛 g (lent_fn g p io it)
-    by_value 𝓛 g p io it placed C Λ fm κs a are = lend 𝓛 C Λ fm g τs (words κs hs a) (all_good κs 𝓛 hs a are) io it placed
+    pub by_value : {M : Type 1} {𝓤 : Ura M} (𝓛 : Logic 𝓤) (g : Callee) (p io it iu : ℕ) → Placed 𝓛 τs io it iu → Ran 𝓛 g (lent_fn g p io it iu)
+    by_value 𝓛 g p io it iu placed C Λ fm κs a are = lend 𝓛 C Λ fm g τs (words κs hs a) (all_good κs 𝓛 hs a are) io it iu placed
 
     module _ {M : Type 1} {𝓤 : Ura M} (𝓛 : Logic 𝓤) (c : Clauses 𝓤 Lent) (g : Callee) (fn : Fn) (ran : Ran 𝓛 g fn) (Φ : (κs : Lfts (suc m)) → Rec → (a : Denots (Types κs)) → Res → Fins κs (slots hs) (keeps hs) a → Type 0) where
       -- what g ensures: Φ of the outcome and of the arguments' last values
@@ -316,9 +323,9 @@ module _ (L : Lendable) where
 
   -- a buffer before the other arguments
   module _ (m j : ℕ) (ok : AllWithin (suc m) (j ∷ [])) (hs : List (Handed (suc m))) where
-    abbrev pub buf_fn : Callee → ℕ → ℕ → ℕ → ℕ → ℕ → Fn
-    buf_fn g p io it ip is = record { lifetimes = suc m; outlives = []; ty_params = []; givens = 0; params = p; locals = buf_locals j (tys hs); body = buf_body g (tys hs) io it ip is }
+    abbrev pub buf_fn : Callee → ℕ → ℕ → ℕ → ℕ → ℕ → ℕ → Fn
+    buf_fn g p io it ip is iu = record { lifetimes = suc m; outlives = []; ty_params = []; givens = 0; params = p; locals = buf_locals j (tys hs); body = buf_body g (tys hs) io it ip is iu }
 
-    pub with_buffer : {M : Type 1} {𝓤 : Ura M} (𝓛 : Logic 𝓤) (g : Callee) (p io it ip is : ℕ) → Buf-placed 𝓛 j (tys hs) io it ip is → Ran m (bytes_mut j ok ∷ hs) 𝓛 g (buf_fn g p io it ip is)
-    with_buffer 𝓛 g p io it ip is placed C Λ fm κs a are =
-        lend_buf 𝓛 C Λ fm g j (tys hs) a.0.ref_ptr (length a.0.now) are.0.0.1.0 (words κs hs a.1) (all_good κs 𝓛 hs a.1 are.1) io it ip is placed
+    pub with_buffer : {M : Type 1} {𝓤 : Ura M} (𝓛 : Logic 𝓤) (g : Callee) (p io it ip is iu : ℕ) → Buf-placed 𝓛 j (tys hs) io it ip is iu → Ran m (bytes_mut j ok ∷ hs) 𝓛 g (buf_fn g p io it ip is iu)
+    with_buffer 𝓛 g p io it ip is iu placed C Λ fm κs a are =
+        lend_buf 𝓛 C Λ fm g j (tys hs) a.0.ref_ptr (length a.0.now) are.0.0.1.0 (words κs hs a.1) (all_good κs 𝓛 hs a.1 are.1) io it ip is iu placed

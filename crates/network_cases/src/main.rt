@@ -8,6 +8,7 @@
 // A station is a number, see `words::station`, and the context is its number of octets, see `turns::rising`. A missing field is `-` or
 // left out. Any other line is printed as it is.
 #![tactic(auto)]
+
 mod digest;
 mod line;
 mod parts;
@@ -15,38 +16,41 @@ mod turns;
 mod words;
 
 use network::Network;
+use std::io::{Read, Result};
 
 // The record after one line.
-fn act(before: Network, text: &[u8]) -> Network {
+fn act(rt: &impl Print, before: Network, text: &[u8]) -> Result<Network> {
     if words::begins(text, b"floor ") {
-        return turns::floor(text);
+        return turns::floor(rt, text);
     }
     if words::begins(text, b"set ") {
         let after = parts::set(before, text);
-        turns::show(text, after);
-        return after;
+        turns::show(rt, text, after)?;
+        return Ok(after);
     }
     if turns::is_event(text) {
-        return turns::turn(before, text);
+        return turns::turn(rt, before, text);
     }
-    line::say(text);
-    before
+    line::say(rt, text)?;
+    Ok(before)
 }
 
 // The lines in order, each on the record that the one before left. At first it is the one of a refused set-up.
-fn run(text: &[u8]) {
+fn run(rt: &impl Print, text: &[u8]) -> Result<()> {
     let s = floor_link::set_up(0, 0, 0);
     let mut n = s.network;
     let mut at: usize = 0;
     while at < text.len() {
         let end = words::end_of_line(text, at);
-        n = act(n, &text[at..end]);
+        n = act(rt, n, &text[at..end])?;
         at = words::next_line(text, at, end);
     }
+    Ok(())
 }
 
-fn main() {
-    let mut space = io::large_buffer();
-    let n = io::read_full(0, &mut space);
-    run(&space[..n]);
+fn main(rt: HostRuntime) -> Result<()> {
+    let mut text = Vec::new(rt.alloc());
+    let mut input = rt.reader();
+    input.read_to_end(&mut text)?;
+    run(&rt, text.as_slice())
 }

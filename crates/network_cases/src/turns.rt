@@ -6,28 +6,29 @@ use events::{Event, Kind};
 use floor_link::Line;
 use joining::Old;
 use network::Network;
+use std::io::Result;
 
 // The line of input, a colon, and the digest of the record.
-pub fn show(text: &[u8], n: Network) {
+pub fn show(rt: &impl Print, text: &[u8], n: Network) -> Result<()> {
     let mut out = [0u8; 512];
     let mut at = line::put_text(&mut out, 0, text);
     at = line::put_text(&mut out, at, b" :");
     at = line::put_number(&mut out, at, digest::of_network(n));
-    line::finish(&mut out, at);
+    line::finish(rt, &mut out, at)
 }
 
 // The same, with ANSWER in front of the digest.
-fn show_answer(text: &[u8], answer: u8, n: Network) {
+fn show_answer(rt: &impl Print, text: &[u8], answer: u8, n: Network) -> Result<()> {
     let mut out = [0u8; 512];
     let mut at = line::put_text(&mut out, 0, text);
     at = line::put_text(&mut out, at, b" :");
     at = line::put_number(&mut out, at, answer as u64);
     at = line::put_number(&mut out, at, digest::of_network(n));
-    line::finish(&mut out, at);
+    line::finish(rt, &mut out, at)
 }
 
 // The same, with ANSWER, SENT, GIVENUP, HELD and TABLES in front of the digest.
-fn show_line(text: &[u8], x: Line, n: Network) {
+fn show_line(rt: &impl Print, text: &[u8], x: Line, n: Network) -> Result<()> {
     let answer = x.answer;
     let mut out = [0u8; 512];
     let mut at = line::put_text(&mut out, 0, text);
@@ -38,11 +39,11 @@ fn show_line(text: &[u8], x: Line, n: Network) {
     at = line::put_number(&mut out, at, x.held as u64);
     at = line::put_number(&mut out, at, x.tables as u64);
     at = line::put_number(&mut out, at, digest::of_network(n));
-    line::finish(&mut out, at);
+    line::finish(rt, &mut out, at)
 }
 
 // floor APS TIMEOUT RESENDS
-pub fn floor(text: &[u8]) -> Network {
+pub fn floor(rt: &impl Print, text: &[u8]) -> Result<Network> {
     let s = floor_link::set_up(
         words::number(text, 1),
         words::number(text, 2),
@@ -50,8 +51,8 @@ pub fn floor(text: &[u8]) -> Network {
     );
     let answer = s.answer;
     let n = s.network;
-    show_answer(text, answers::number(answer), n);
-    n
+    show_answer(rt, text, answers::number(answer), n)?;
+    Ok(n)
 }
 
 pub fn is_event(text: &[u8]) -> bool {
@@ -120,21 +121,21 @@ fn rising(sequence: u16) -> [u8; 320]
 }
 
 // The event of the line, with this context.
-fn take_turn(before: Network, text: &[u8], context: &[u8]) -> Network {
+fn take_turn(rt: &impl Print, before: Network, text: &[u8], context: &[u8]) -> Result<Network> {
     let e = event(text);
     let r = floor_link::event(before, e, context);
     let x = r.line;
     let after = r.network;
-    show_line(text, x, after);
-    after
+    show_line(rt, text, x, after)?;
+    Ok(after)
 }
 
 // EVENT AT STATION SEQ OLD CONTEXT: of the context the line says how many octets it has. No more than 320 are given.
-pub fn turn(before: Network, text: &[u8]) -> Network {
+pub fn turn(rt: &impl Print, before: Network, text: &[u8]) -> Result<Network> {
     let octets = rising(words::number(text, 3));
     let n = words::number(text, 5) as usize;
     if n <= 320 {
-        return take_turn(before, text, &octets[..n]);
+        return take_turn(rt, before, text, &octets[..n]);
     }
-    take_turn(before, text, &octets)
+    take_turn(rt, before, text, &octets)
 }
