@@ -1,4 +1,5 @@
 // A line of output, gathered in an array of 512 octets and written by one call. What does not fit is left out.
+use std::io::Result;
 
 // Puts one octet at `at`, and returns the place after it.
 pub fn put(line: &mut [u8; 512], at: usize, octet: u8) -> usize {
@@ -51,24 +52,25 @@ pub fn put_part(line: &mut [u8; 512], at: usize, octets: &[u8]) -> usize {
 }
 
 // Writes the first n octets of `text`, and nothing where it has fewer.
-fn write_front(text: &[u8], n: usize) {
+fn write_front(rt: &impl Print, text: &[u8], n: usize) -> Result<()> {
     if n <= text.len() {
-        io::write_all(1, &text[..n]);
+        rt.write_all(&text[..n])?;
     }
+    Ok(())
 }
 
-fn write_line(line: &[u8; 512], n: usize) {
-    write_front(line, n);
+fn write_line(rt: &impl Print, line: &[u8; 512], n: usize) -> Result<()> {
+    write_front(rt, line, n)
 }
 
 // Ends the line at `at`, and writes it.
-pub fn finish(line: &mut [u8; 512], at: usize) {
+pub fn finish(rt: &impl Print, line: &mut [u8; 512], at: usize) -> Result<()> {
     let n = put(line, at, b'\n');
-    write_line(line, n);
+    write_line(rt, line, n)
 }
 
-pub fn say(text: &[u8]) {
+pub fn say(rt: &impl Print, text: &[u8]) -> Result<()> {
     let mut line = [0u8; 512];
     let at = put_text(&mut line, 0, text);
-    finish(&mut line, at);
+    finish(rt, &mut line, at)
 }

@@ -5,6 +5,7 @@ use crate::{acts, line, records, same};
 use elements::{Association, Move};
 use joining::{Notice, Old};
 use record::{AccessPoint, Associations, LoneAccessPoint, Moves};
+use std::io::Result;
 
 // The first n octets, and all of them where there are fewer.
 fn put_front(text: &mut [u8; 512], at: usize, octets: &[u8], n: usize) -> usize {
@@ -14,7 +15,7 @@ fn put_front(text: &mut [u8; 512], at: usize, octets: &[u8], n: usize) -> usize 
     line::put_part(text, at, &octets[..n])
 }
 
-fn show_row(x: Association) {
+fn show_row(rt: &impl Print, x: Association) -> Result<()> {
     let station = x.station;
     let context = x.context;
     let mut text = [0u8; 512];
@@ -23,10 +24,10 @@ fn show_row(x: Association) {
     at = line::put_number(&mut text, at, x.sequence as u64);
     at = line::put_number(&mut text, at, x.context_len as u64);
     at = put_front(&mut text, at, &context, x.context_len);
-    line::finish(&mut text, at);
+    line::finish(rt, &mut text, at)
 }
 
-fn show_move(kind: &[u8], x: Move) {
+fn show_move(rt: &impl Print, kind: &[u8], x: Move) -> Result<()> {
     let station = x.station;
     let mut text = [0u8; 512];
     let mut at = line::put_text(&mut text, 0, kind);
@@ -36,39 +37,41 @@ fn show_move(kind: &[u8], x: Move) {
     at = line::put_number(&mut text, at, x.identifier as u64);
     at = line::put_number(&mut text, at, x.ticks_left as u64);
     at = line::put_number(&mut text, at, x.resends_left as u64);
-    line::finish(&mut text, at);
+    line::finish(rt, &mut text, at)
 }
 
-fn show_rows(t: Associations) {
+fn show_rows(rt: &impl Print, t: Associations) -> Result<()> {
     let n = t.count;
     for i in 0..16 {
         let x = t.items[i];
         if i < n {
-            show_row(x);
+            show_row(rt, x)?;
         }
     }
+    Ok(())
 }
 
-fn show_moves(kind: &[u8], t: Moves) {
+fn show_moves(rt: &impl Print, kind: &[u8], t: Moves) -> Result<()> {
     let n = t.count;
     for i in 0..8 {
         let x = t.items[i];
         if i < n {
-            show_move(kind, x);
+            show_move(rt, kind, x)?;
         }
     }
+    Ok(())
 }
 
 // Whether the record is as it came.
-fn mark(before: LoneAccessPoint, after: LoneAccessPoint) {
+fn mark(rt: &impl Print, before: LoneAccessPoint, after: LoneAccessPoint) -> Result<()> {
     if same::same_lone(before, after) {
-        line::say(b"  record as it came");
+        line::say(rt, b"  record as it came")
     } else {
-        line::say(b"  record changed");
+        line::say(rt, b"  record changed")
     }
 }
 
-fn show_numbers(a: AccessPoint) {
+fn show_numbers(rt: &impl Print, a: AccessPoint) -> Result<()> {
     let t = a.associations;
     let m = a.moves;
     let mut text = [0u8; 512];
@@ -82,22 +85,28 @@ fn show_numbers(a: AccessPoint) {
     at = line::put_number(&mut text, at, a.given_up as u64);
     at = line::put_number(&mut text, at, same::rows_slack(t));
     at = line::put_number(&mut text, at, same::moves_slack(m));
-    line::finish(&mut text, at);
+    line::finish(rt, &mut text, at)
 }
 
 // The record after a call.
-fn picture(before: LoneAccessPoint, after: LoneAccessPoint) {
-    mark(before, after);
+fn picture(rt: &impl Print, before: LoneAccessPoint, after: LoneAccessPoint) -> Result<()> {
+    mark(rt, before, after)?;
     let a = after.point;
-    show_numbers(a);
+    show_numbers(rt, a)?;
     let t = a.associations;
-    show_rows(t);
+    show_rows(rt, t)?;
     let m = a.moves;
-    show_moves(b"  move", m);
+    show_moves(rt, b"  move", m)
 }
 
 // Hands the packet over with the lent buffer, and shows the answer, the length, the whole buffer and the record.
-fn hand_over(l: LoneAccessPoint, from: u16, packet: &[u8], buffer: &mut [u8]) -> LoneAccessPoint {
+fn hand_over(
+    rt: &impl Print,
+    l: LoneAccessPoint,
+    from: u16,
+    packet: &[u8],
+    buffer: &mut [u8],
+) -> Result<LoneAccessPoint> {
     let r = access_point::outside(l, from, packet, buffer);
     let answer = r.answer;
     let next = r.lone;
@@ -106,24 +115,25 @@ fn hand_over(l: LoneAccessPoint, from: u16, packet: &[u8], buffer: &mut [u8]) ->
     at = line::put_number(&mut text, at, answers::number(answer) as u64);
     at = line::put_number(&mut text, at, r.len as u64);
     at = line::put_part(&mut text, at, buffer);
-    line::finish(&mut text, at);
-    picture(l, next);
-    next
+    line::finish(rt, &mut text, at)?;
+    picture(rt, l, next)?;
+    Ok(next)
 }
 
 // Outside bytes from an AP, with a lent buffer of `size` octets EE.
 pub fn outside(
+    rt: &impl Print,
     name: &[u8],
     l: LoneAccessPoint,
     from: u16,
     packet: &[u8],
     size: usize,
-) -> LoneAccessPoint
+) -> Result<LoneAccessPoint>
     requires { size ≤ 84 }
 {
-    line::say(name);
+    line::say(rt, name)?;
     let mut buffer = [0xEEu8; 84];
-    hand_over(l, from, packet, &mut buffer[..size])
+    hand_over(rt, l, from, packet, &mut buffer[..size])
 }
 
 // 84 octets, each of them its own place: 00, 01, 02 and so on.
@@ -150,17 +160,18 @@ fn extended(front: &[u8; 18]) -> [u8; 84]
 
 // A packet of n octets from AP 0: the 18 of `front`, and behind them each its own place: 12, 13, 14 and so on.
 pub fn outside_long(
+    rt: &impl Print,
     name: &[u8],
     l: LoneAccessPoint,
     front: &[u8; 18],
     n: usize,
     size: usize,
-) -> LoneAccessPoint
+) -> Result<LoneAccessPoint>
     requires n_bound { n ≤ 84 }
     requires size_bound { size ≤ 84 }
 {
     let packet = extended(front);
-    outside(name, l, 0, &packet[..n], size)
+    outside(rt, name, l, 0, &packet[..n], size)
 }
 
 fn put_notice(text: &mut [u8; 512], at: usize, notice: Notice) -> usize {
@@ -180,14 +191,15 @@ fn put_notice(text: &mut [u8; 512], at: usize, notice: Notice) -> usize {
 
 // A join of station k: the answer, what is sent, and the record.
 pub fn join(
+    rt: &impl Print,
     name: &[u8],
     l: LoneAccessPoint,
     k: u8,
     sequence: u16,
     old: Old,
     context: &[u8],
-) -> LoneAccessPoint {
-    line::say(name);
+) -> Result<LoneAccessPoint> {
+    line::say(rt, name)?;
     let j = acts::join(l, records::station(k), sequence, old, context);
     let answer = j.answer;
     let notice = j.notice;
@@ -197,22 +209,22 @@ pub fn join(
     let mut at = line::put_text(&mut text, 0, b" ");
     at = line::put_number(&mut text, at, answers::number(answer) as u64);
     at = put_notice(&mut text, at, notice);
-    line::finish(&mut text, at);
-    picture(l, next);
-    next
+    line::finish(rt, &mut text, at)?;
+    picture(rt, l, next)?;
+    Ok(next)
 }
 
 // Station k leaves: the record.
-pub fn leave(name: &[u8], l: LoneAccessPoint, k: u8) -> LoneAccessPoint {
-    line::say(name);
+pub fn leave(rt: &impl Print, name: &[u8], l: LoneAccessPoint, k: u8) -> Result<LoneAccessPoint> {
+    line::say(rt, name)?;
     let next = acts::left(l, k);
-    picture(l, next);
-    next
+    picture(rt, l, next)?;
+    Ok(next)
 }
 
 // A tick: how many notices are sent again and how many moves are given up, the moves sent again, and the record.
-pub fn tick(name: &[u8], l: LoneAccessPoint) -> LoneAccessPoint {
-    line::say(name);
+pub fn tick(rt: &impl Print, name: &[u8], l: LoneAccessPoint) -> Result<LoneAccessPoint> {
+    line::say(rt, name)?;
     let t = acts::tick(l);
     let a = t.point;
     let due = t.due;
@@ -221,8 +233,8 @@ pub fn tick(name: &[u8], l: LoneAccessPoint) -> LoneAccessPoint {
     let mut at = line::put_text(&mut text, 0, b" ");
     at = line::put_number(&mut text, at, due.count as u64);
     at = line::put_number(&mut text, at, t.given_up as u64);
-    line::finish(&mut text, at);
-    show_moves(b"  again", due);
-    picture(l, next);
-    next
+    line::finish(rt, &mut text, at)?;
+    show_moves(rt, b"  again", due)?;
+    picture(rt, l, next)?;
+    Ok(next)
 }
