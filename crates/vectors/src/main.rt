@@ -8,14 +8,28 @@
 //     FILE is too long                         it fills the buffer
 //     a name is empty or too long
 #![tactic(auto)]
+
 ghost use Rattle.std.specs.Prelude.{◌≡◌, true, ℕ, ◌+◌, ◌<◌, ◌≤◌, length, get_or};
 ghost use Rattle.script.specs.Script.{output_of};
+
+use std::env::{Env, FillError};
+use std::fs;
+use std::io::Read;
+use std::rt::Files;
 
 // What was read of a file: whether it could be read, and how many octets.
 #[derive(Clone, Copy)]
 struct Got {
     good: bool,
     len: usize,
+}
+
+// How it went with an argument: its script agrees, it does not, or there is no such argument.
+#[derive(Clone, Copy)]
+enum Checked {
+    Agrees,
+    Fails,
+    Missing,
 }
 
 // Puts a text into `line` at `at`: the place after it.
@@ -37,8 +51,8 @@ fn put_number(line: &mut [u8], at: usize, n: usize) -> usize
     put(line, at, &digits[..k])
 }
 
-// Writes a line of three parts.
-fn say(first: &[u8], second: &[u8], third: &[u8])
+// Writes a line of three parts. A line that cannot be written is left out.
+fn say(rt: &impl Print, first: &[u8], second: &[u8], third: &[u8])
     requires { (length first.now ≤ 255) × (length second.now ≤ 64) × (length third.now ≤ 64) }
 {
     let mut line = [0u8; 512];
@@ -46,30 +60,30 @@ fn say(first: &[u8], second: &[u8], third: &[u8])
     let b = put(&mut line, a, second);
     let c = put(&mut line, b, third);
     let n = put(&mut line, c, b"\n");
-    io::write_all(1, &line[..n]);
+    let _ = rt.write_all(&line[..n]);
 }
 
 // Reads on from octet `len`. At the end of the file nothing more is there.
-fn more(fd: i32, into: &mut [u8], len: usize) -> Got
+fn more(from: &mut impl Read, into: &mut [u8], len: usize) -> Got
     requires { len ≤ length into.old }
     ensures { (len ≤ result.len) × (result.len ≤ length into.old) }
 {
-    let rest: &mut [u8] = &mut into[len..];
-    let got = libc::read(fd, rest);
-    let n = io::count(got, rest);
-    Got {
-        good: 0 <= got,
-        len: len + n,
+    match from.read(&mut into[len..]) {
+        Ok(n) => Got {
+            good: true,
+            len: len + n,
+        },
+        Err(_) => Got { good: false, len },
     }
 }
 
 // Reads a file to its end, or till the buffer is full. Each turn reads an octet at least.
-fn read_all(fd: i32, into: &mut [u8]) -> Got
+fn read_all(from: &mut impl Read, into: &mut [u8]) -> Got
     ensures { result.len ≤ length into.old }
 {
     let mut len: usize = 0;
     while len < into.len() {
-        let g = more(fd, into, len);
+        let g = more(from, into, len);
         if !g.good {
             return g;
         }
@@ -81,19 +95,29 @@ fn read_all(fd: i32, into: &mut [u8]) -> Got
     Got { good: true, len }
 }
 
-fn read_file(path: &[u8], into: &mut [u8]) -> Got
+fn read_file(rt: &impl Files, path: &str, into: &mut [u8]) -> Got
     ensures { result.len ≤ length into.old }
 {
-    let fd = os::open_read(path);
-    if fd < 0 {
-        return Got {
+    match fs::open(rt, path) {
+        Ok(mut file) => read_all(&mut file, into),
+        Err(_) => Got {
             good: false,
             len: 0,
-        };
+        },
     }
-    let g = read_all(fd, into);
-    libc::close(fd);
-    g
+}
+
+// The same, where the path may be no text: there is no such file.
+fn read_named(rt: &impl Files, path: &[u8], into: &mut [u8]) -> Got
+    ensures { result.len ≤ length into.old }
+{
+    match str::from_utf8(path) {
+        Ok(text) => read_file(rt, text, into),
+        Err(_) => Got {
+            good: false,
+            len: 0,
+        },
+    }
 }
 
 // The name of a file: a word and its ending. How long it is.
@@ -106,19 +130,19 @@ fn name_with(word: &[u8], ending: &[u8], path: &mut [u8]) -> usize
 }
 
 // Reads the file of a name and an ending. What is wrong with it is written.
-fn load(name: &[u8], ending: &[u8], into: &mut [u8]) -> Got
+fn load(rt: &(impl Files + Print), name: &[u8], ending: &[u8], into: &mut [u8]) -> Got
     requires { (length name.now ≤ 255) × (length ending.now ≤ 64) }
     ensures { result.len ≤ length into.old }
 {
     let mut path = [0u8; 512];
     let n = name_with(name, ending, &mut path);
-    let g = read_file(&path[..n], into);
+    let g = read_named(rt, &path[..n], into);
     if !g.good {
-        say(name, ending, b" cannot be read");
+        say(rt, name, ending, b" cannot be read");
         return g;
     }
     if g.len == into.len() {
-        say(name, ending, b" is too long");
+        say(rt, name, ending, b" is too long");
         return Got {
             good: false,
             len: 0,
@@ -146,17 +170,17 @@ fn first_difference(a: &[u8], b: &[u8]) -> usize
     i
 }
 
-fn say_differs(name: &[u8], place: usize)
+fn say_differs(rt: &impl Print, name: &[u8], place: usize)
     requires { length name.now ≤ 255 }
 {
     let mut line = [0u8; 64];
     let a = put(&mut line, 0, b" differs from octet ");
     let n = put_number(&mut line, a, place);
-    say(name, &line[..n], b" on");
+    say(rt, name, &line[..n], b" on");
 }
 
 // Whether the texts are the same; else where they differ is written.
-fn same_text(name: &[u8], printed: &[u8], wanted: &[u8]) -> bool
+fn same_text(rt: &impl Print, name: &[u8], printed: &[u8], wanted: &[u8]) -> bool
     requires { length name.now ≤ 255 }
     ensures { result ≡ true → printed.now ≡ wanted.now }
 {
@@ -166,75 +190,119 @@ fn same_text(name: &[u8], printed: &[u8], wanted: &[u8]) -> bool
             return true;
         }
     }
-    say_differs(name, place);
+    say_differs(rt, name, place);
     false
 }
 
 // Whether a script prints what it must.
-fn prints(name: &[u8], script: &[u8], wanted: &[u8], out: &mut [u8]) -> bool
+fn prints(rt: &impl Print, name: &[u8], script: &[u8], wanted: &[u8], out: &mut [u8]) -> bool
     requires { length name.now ≤ 255 }
     ensures { result ≡ true → output_of script.now ≡ wanted.now }
 {
     let r = script_runner::rehearse(script, out);
     let answer = r.answer;
     if answers::number(answer) != 0 {
-        say(name, b"", b" has too long an output");
+        say(rt, name, b"", b" has too long an output");
         return false;
     }
     let n = r.len;
-    same_text(name, &out[..n], wanted)
+    same_text(rt, name, &out[..n], wanted)
 }
 
 // Whether the script of a name prints what it must.
-fn agrees(name: &[u8], script: &mut [u8], wanted: &mut [u8], out: &mut [u8]) -> bool
+fn agrees(
+    rt: &(impl Files + Print),
+    name: &[u8],
+    script: &mut [u8],
+    wanted: &mut [u8],
+    out: &mut [u8],
+) -> bool
     requires { length name.now ≤ 255 }
 {
-    let s = load(name, b".in", script);
+    let s = load(rt, name, b".in", script);
     if !s.good {
         return false;
     }
-    let w = load(name, b".out", wanted);
+    let w = load(rt, name, b".out", wanted);
     if !w.good {
         return false;
     }
     let m = s.len;
     let n = w.len;
-    prints(name, &script[..m], &wanted[..n], out)
+    prints(rt, name, &script[..m], &wanted[..n], out)
+}
+
+fn say_unnamed(rt: &impl Print) {
+    say(rt, b"a name", b" is empty", b" or too long");
+}
+
+// Whether the script of a name prints what it must; the name may be empty.
+fn check_name(
+    rt: &(impl Files + Print),
+    name: &[u8],
+    script: &mut [u8],
+    wanted: &mut [u8],
+    out: &mut [u8],
+) -> Checked
+    requires { length name.now ≤ 255 }
+{
+    if name.len() == 0 {
+        say_unnamed(rt);
+        return Checked::Fails;
+    }
+    if agrees(rt, name, script, wanted, out) {
+        return Checked::Agrees;
+    }
+    Checked::Fails
 }
 
 // Whether the script that argument i names prints what it must.
-fn check_one(i: usize, script: &mut [u8], wanted: &mut [u8], out: &mut [u8]) -> bool {
+fn check_one(
+    rt: &(impl Env + Files + Print),
+    i: usize,
+    script: &mut [u8],
+    wanted: &mut [u8],
+    out: &mut [u8],
+) -> Checked {
     let mut word = [0u8; 255];
-    let n = os::arg(i, &mut word);
-    if n == 0 {
-        say(b"a name", b" is empty", b" or too long");
-        return false;
+    match rt.arg(i, &mut word) {
+        Ok(n) => check_name(rt, &word[..n], script, wanted, out),
+        Err(FillError::NotPresent) => Checked::Missing,
+        Err(FillError::TooLong) => {
+            say_unnamed(rt);
+            Checked::Fails
+        }
     }
-    agrees(&word[..n], script, wanted, out)
 }
 
-fn say_count(count: usize) {
+fn say_count(rt: &impl Print, count: usize) {
     let mut line = [0u8; 20];
     let n = put_number(&mut line, 0, count);
-    say(&line[..n], b" scripts", b" agree");
+    say(rt, &line[..n], b" scripts", b" agree");
 }
 
 // The arguments in order. The first is the program's own name.
-fn check_all(script: &mut [u8], wanted: &mut [u8], out: &mut [u8]) {
-    let count = os::arg_count();
-    let mut i: usize = 1;
-    while i < count {
-        if !check_one(i, script, wanted, out) {
-            return;
+fn check_all(
+    rt: &(impl Env + Files + Print),
+    script: &mut [u8],
+    wanted: &mut [u8],
+    out: &mut [u8],
+) {
+    for i in 1..usize::MAX {
+        match check_one(rt, i, script, wanted, out) {
+            Checked::Agrees => {}
+            Checked::Fails => return,
+            Checked::Missing => {
+                say_count(rt, i - 1);
+                return;
+            }
         }
-        i += 1;
     }
-    say_count(i - 1);
 }
 
-fn main() {
+fn main(rt: HostRuntime) {
     let mut script = [0u8; 16384];
     let mut wanted = [0u8; 16384];
     let mut out = [0u8; 16384];
-    check_all(&mut script, &mut wanted, &mut out);
+    check_all(&rt, &mut script, &mut wanted, &mut out);
 }
