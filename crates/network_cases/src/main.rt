@@ -9,6 +9,8 @@
 // left out. Any other line is printed as it is.
 #![tactic(auto)]
 
+ghost use Rattle.std.specs.Prelude.{◌≤◌, length};
+
 mod digest;
 mod line;
 mod parts;
@@ -48,9 +50,24 @@ fn run(rt: &impl Print, text: &[u8]) -> Result<()> {
     Ok(())
 }
 
+// Reads to the end, or till the buffer is full; an error is the end. How many octets there are.
+fn read_full(from: &mut impl Read, into: &mut [u8]) -> usize
+    ensures { result ≤ length into.old }
+{
+    let mut len: usize = 0;
+    while len < into.len() {
+        match from.read(&mut into[len..]) {
+            Ok(0) => return len,
+            Ok(n) => len += n,
+            Err(_) => return len,
+        }
+    }
+    len
+}
+
 fn main(rt: HostRuntime) -> Result<()> {
-    let mut text = Vec::new(rt.alloc());
+    let mut space = io::large_buffer();
     let mut input = rt.reader();
-    input.read_to_end(&mut text)?;
-    run(&rt, text.as_slice())
+    let n = read_full(&mut input, &mut space);
+    run(&rt, &space[..n])
 }

@@ -1,10 +1,12 @@
 // The floor rehearsal: a script on standard input, its results on standard output. Standard input is read piece by piece, so a script
 // can have any length. Lines that have ended are played at once; what is left of the last one is kept for the next piece.
 #![tactic(auto)]
+
 ghost use Rattle.std.specs.Prelude.{◌≡◌, true, ◌*◌, ◌≤◌, length};
 ghost use Rattle.network.specs.Events.{valid_network_record};
 
 use network::Network;
+use std::io::{Read, Result};
 
 // How many octets are there, and whether standard input has ended.
 #[derive(Clone, Copy)]
@@ -14,23 +16,23 @@ struct Got {
 }
 
 // The network after some lines, and whether their results were written.
-#[derive(Clone, Copy)]
+#[derive(Drop)]
 struct Shown {
-    written: bool,
+    written: Result<()>,
     network: Network,
 }
 
 // Reads on from octet `len`. An error is the end.
-fn more(input: &mut [u8], len: usize) -> Got
+fn more(from: &mut impl Read, input: &mut [u8], len: usize) -> Got
     requires { len ≤ length input.old }
     ensures { result.len ≤ length input.old }
 {
-    let rest: &mut [u8] = &mut input[len..];
-    let got = libc::read(0, rest);
-    let n = io::count(got, rest);
-    Got {
-        len: len + n,
-        ended: n == 0,
+    match from.read(&mut input[len..]) {
+        Ok(n) => Got {
+            len: len + n,
+            ended: n == 0,
+        },
+        Err(_) => Got { len, ended: true },
     }
 }
 
@@ -49,7 +51,7 @@ fn has_three_lines(s: &[u8]) -> bool {
 }
 
 // Reads the first three lines. Of 1024 octets with fewer, one line is too long, and no set-up is good. Each turn reads an octet at least.
-fn first_lines(input: &mut [u8]) -> Got
+fn first_lines(from: &mut impl Read, input: &mut [u8]) -> Got
     requires { 1024 ≤ length input.old }
     ensures { result.len ≤ length input.old }
 {
@@ -60,7 +62,7 @@ fn first_lines(input: &mut [u8]) -> Got
         if 1024 <= len || has_three_lines(&input[..len]) {
             return Got { len, ended: false };
         }
-        let g = more(input, len);
+        let g = more(from, input, len);
         len = g.len;
         if g.ended {
             return g;
@@ -113,7 +115,7 @@ fn keep(input: &mut [u8], at: usize, len: usize) -> usize
 }
 
 // Plays the lines of s, and writes what they print.
-fn show(network: Network, s: &[u8], out: &mut [u8]) -> Shown
+fn show(rt: &impl Print, network: Network, s: &[u8], out: &mut [u8]) -> Shown
     requires network_value { valid_network_record network ≡ true }
     requires s_in_bounds { 32 * length s.now ≤ length out.old }
     ensures { valid_network_record result.network ≡ true }
@@ -122,14 +124,23 @@ fn show(network: Network, s: &[u8], out: &mut [u8]) -> Shown
     let n = p.len;
     let next = p.network;
     Shown {
-        written: io::write_all(1, &out[..n]),
+        written: rt.write_all(&out[..n]),
         network: next,
     }
 }
 
 // The lines of events, from octet `first` of the `count` octets that were read. A proved loop has to end, and nothing says that standard
 // input does: so it counts its turns down, from a number that no run uses up.
-fn go_on(input: &mut [u8], out: &mut [u8], start: Network, first: usize, count: usize, at_end: bool)
+fn go_on(
+    rt: &impl Print,
+    from: &mut impl Read,
+    input: &mut [u8],
+    out: &mut [u8],
+    start: Network,
+    first: usize,
+    count: usize,
+    at_end: bool,
+) -> Result<()>
     requires start_value { valid_network_record start ≡ true }
     requires input_in_bounds { (32 * length input.old ≤ length out.old) × (first ≤ count) × (count ≤ length input.old) }
 {
@@ -140,42 +151,49 @@ fn go_on(input: &mut [u8], out: &mut [u8], start: Network, first: usize, count: 
     let mut turns = u64::MAX;
     while 0 < turns {
         let end = whole_lines(input, at, len, ended);
-        let p = show(network, &input[at..end], out);
-        if ended || !p.written {
-            return;
-        }
+        let p = show(rt, network, &input[at..end], out);
         let next = p.network;
+        p.written?;
+        if ended {
+            return Ok(());
+        }
         network = next;
         let kept = keep(input, end, len);
-        let g = more(input, kept);
+        let g = more(from, input, kept);
         at = 0;
         len = g.len;
         ended = g.ended;
         turns -= 1;
     }
+    Ok(())
 }
 
 // A script, read into `input` and printed into `out`.
-fn run(input: &mut [u8], out: &mut [u8])
+fn run(rt: &(impl Input + Print), input: &mut [u8], out: &mut [u8]) -> Result<()>
     requires { (1024 ≤ length input.old) × (32 * length input.old ≤ length out.old) }
 {
-    let g = first_lines(input);
+    let mut from = rt.reader();
+    let g = first_lines(&mut from, input);
     let n = g.len;
     let o = script_reader::read_opening(&input[..n]);
-    if !io::write_all(1, b"EVENT ANSWER SENT GIVENUP HELD TABLES\n") {
-        return;
-    }
+    rt.write_all(b"EVENT ANSWER SENT GIVENUP HELD TABLES\n")?;
     if !o.given {
-        io::write_all(1, b"? 14 0 0 - -\n");
-        return;
+        return rt.write_all(b"? 14 0 0 - -\n");
     }
     let s = floor_link::set_up(o.aps, o.timeout, o.resends);
     let network = s.network;
-    go_on(input, out, network, o.next, n, g.ended);
+    go_on(rt, &mut from, input, out, network, o.next, n, g.ended)
 }
 
-fn main() {
+// Room for what 16384 octets print at most.
+fn room() -> [u8; 524288]
+    ensures { 524288 ≡ length result }
+{
+    [0; 524288]
+}
+
+fn main(rt: HostRuntime) -> Result<()> {
     let mut input = [0u8; 16384];
-    let mut out = [0u8; 524288];
-    run(&mut input, &mut out);
+    let mut out = room();
+    run(&rt, &mut input, &mut out)
 }
