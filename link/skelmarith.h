@@ -10,7 +10,7 @@
  *   - every pointer is aligned as its type asks, and valid for the whole struct or for as many octets as the length says;
  *   - a record or a buffer that the call may write overlaps nothing else that the call is given, and nobody else reads or
  *     writes it meanwhile;
- *   - the stack has room, since records are copied there: 16 KB for the calls on one AP alone, 96 KB for those on a floor, 192 KB for a
+ *   - the stack has room, since records are copied there: 16 KB for the calls on one AP alone, 192 KB for those on a floor and for a
  *     script. What each call uses: link/stack.sh.
  * Nothing else is asked. Numbers may have any value and records may hold anything: what is outside the limits is refused.
  *
