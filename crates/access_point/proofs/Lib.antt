@@ -1,4 +1,4 @@
-pub mod Setup
 pub mod Ticks
+pub mod Written
 pub mod Replies
 pub mod Outsides

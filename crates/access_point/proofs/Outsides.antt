@@ -1,9 +1,13 @@
 -- Outside bytes at an access point alone: the tests one after the other, and what an accepted packet leads to.
 -- Assumes nothing.
-use Rattle.std.proofs.Common.{◌≡◌, ℕ, ◌<◌, ◌≤◌, Bool, true, false, cond, not, ◌||◌, eqb, ltb, leb, List, [], ◌∷◌, ◌++◌, length, drop, sym, refl, ap, arith, le-ltb, lt-ltb, eq-eqb, ne_eqb}
+use Rattle.std.proofs.Common.{◌≡◌, ℕ, ◌+◌, ◌-◌, ◌<◌, Bool, true, false, cond, not, ◌||◌, eqb, ltb, leb, List, [], ◌∷◌, ◌++◌, length, take, drop, sym, refl, ap, ◌∙◌, arith, lt-ltb, ne_eqb}
 use Rattle.lists.specs.Table.{first_of, accepts}
 use Rattle.lists.proofs.Choices.{and_left, and_right, and_true}
-use Rattle.reader.specs.Read.{read_of, context_of}
+use Rattle.answers.specs.declared.Refusal.{Refusal}
+use Rattle.answers.specs.Numbers.{refusal_number}
+use Rattle.answers.proofs.Numbers.{refusal_above}
+use Rattle.reader.specs.Read.{Reading, refused_by, read_of, context_of}
+use Rattle.reader.proofs.Steps.{part_is}
 use Rattle.machine.specs.Packets.{packet_of}
 use Rattle.machine.specs.AccessPoint.{Action, receive}
 use Rattle.machine.specs.Valid.{valid_setup}
@@ -61,12 +65,20 @@ module _ (l : LoneAccessPoint) (v : valid_lone_record l ≡ true) (z : Fits l.po
       tests : first_of (outside_tests (get_lone l) from s b) ≡ 11
       tests = rw (machine_valid l v, h)
 
-  pub unreadable : not (ltb from l.ap_count) || eqb from l.number ≡ false → ((read_of s).answer ≡ 0 → ⊥) → refused_with (read_of s).answer l b ≡ outside_done l from s b
-  unfolding outside_tests get_lone
-  unreadable h n = refused_by_lem (read_of s).answer tests n
-    where
-      tests : first_of (outside_tests (get_lone l) from s b) ≡ (read_of s).answer
-      tests = rw (machine_valid l v, h, ne_eqb (read_of s).answer 0 n)
+  -- the sender is another AP of the floor
+
+  module _ (h : from < l.ap_count) (n : from ≡ l.number → ⊥) where
+    pub on_floor : not (ltb from l.ap_count) || eqb from l.number ≡ false
+    on_floor = rw (lt-ltb from l.ap_count h, ne_eqb from l.number n)
+
+    pub unreadable : (e : Refusal) → refused_by (refusal_number e) ≡ read_of s → refused_with (refusal_number e) l b ≡ outside_done l from s b
+    unfolding outside_tests get_lone
+    unreadable e k =
+        refused_by_lem (refusal_number e)
+        (rw (machine_valid l v, on_floor, ← (ap (λ (r : Reading). r.answer) k), ne_eqb (refusal_number e) 0 (above e))) (above e)
+      where
+        above : (e : Refusal) → refusal_number e ≡ 0 → ⊥
+        above e z = omega (arith, refusal_above e)
 
   -- what the machine's access point does with the packet, and the octets that it sends
   abbrev action : Action
@@ -93,17 +105,14 @@ module _ (l : LoneAccessPoint) (v : valid_lone_record l ≡ true) (z : Fits l.po
   unfolding outside_tests action_on get_lone
   room_decides h e = last_test (not (valid_lone (get_lone l))) _ (ltb (length b) (length sent)) (read_of s).answer (ap not (machine_valid l v)) h e
 
-  pub readable : not (ltb from l.ap_count) || eqb from l.number ≡ false → (read_of s).answer ≡ 0 → answer_done l from (packet_of (read_of s) (context_of s)) b ≡ outside_done l from s b
+  taken_whole : not (ltb from l.ap_count) || eqb from l.number ≡ false → (read_of s).answer ≡ 0 → answer_done l from (packet_of (read_of s) (context_of s)) b ≡ outside_done l from s b
   unfolding outside_done outside answer_done action_on get_lone
-  readable h e = rw (v, room_decides h e) (by_room (ltb (length b) (length sent)))
+  taken_whole h e = rw (v, room_decides h e) (by_room (ltb (length b) (length sent)))
 
--- the sender: not on the floor, the AP itself, or another AP of the floor
-
-pub off_floor_lem : (k b from : ℕ) → k ≤ from → not (ltb from k) || eqb from b ≡ true
-off_floor_lem k b from h = rw (le-ltb from k h)
-
-pub itself : (k b from : ℕ) → from < k → from ≡ b → not (ltb from k) || eqb from b ≡ true
-itself k b from h e = rw (lt-ltb from k h, eq-eqb from b e)
-
-pub on_floor : (k b from : ℕ) → from < k → (from ≡ b → ⊥) → not (ltb from k) || eqb from b ≡ false
-on_floor k b from h e = rw (lt-ltb from k h, ne_eqb from b e)
+  -- the packet that the reader accepts as r, with the part of it that is its context
+  pub readable : from < l.ap_count → (from ≡ l.number → ⊥) → (r : Reading) → r ≡ read_of s → r.answer ≡ 0
+      → answer_done l from (packet_of r (take (r.start + r.len - r.start) (drop r.start s))) b ≡ outside_done l from s b
+  readable h n r e z =
+      rw (part_is s r e)
+      (ap (λ (x : Reading). answer_done l from (packet_of x (context_of s)) b) e
+      ∙ taken_whole (on_floor h n) (ap (λ (x : Reading). x.answer) (sym e) ∙ z))

@@ -1,9 +1,10 @@
 -- Outside bytes at an access point alone: what the code's result means, and the definition that the contract cites.
-use Rattle.std.specs.Prelude.{ℕ, cond, List, ◌++◌, length, take, drop, nat_lt}
-use Rattle.answers.specs.Numbers.{number_of}
+use Rattle.std.specs.Prelude.{ℕ, cond, List, ◌++◌, length, drop, nat_lt, Result, Ok, Err}
+use Rattle.answers.specs.declared.Refusal.{Refusal}
+use Rattle.answers.specs.Numbers.{refusal_number}
 use Rattle.packet.specs.Fields.{Fields}
 use Rattle.reader.specs.declared.Received.{Received}
-use Rattle.machine.specs.Packets.{Packet, fields_as, message_of}
+use Rattle.machine.specs.Packets.{Packet, fields_as}
 use Rattle.machine.specs.AccessPoint.{receive}
 use Rattle.machine.specs.Lone.{LoneAnswer, written_all, outside}
 use Rattle.record.specs.declared.AccessPoint.{AccessPoint}
@@ -11,6 +12,7 @@ use Rattle.record.specs.declared.LoneAccessPoint.{LoneAccessPoint}
 use Rattle.record.specs.Lens.{get_point, put_point, get_lone, put_lone}
 use Rattle.record.specs.Valid.{valid_lone_record}
 use Rattle.receiving.specs.declared.Reply.{Reply}
+use Rattle.receiving.specs.Receive.{message_in}
 use Rattle.access_point.specs.declared.Answered.{Answered}
 
 -- the same AP alone with another record
@@ -24,12 +26,14 @@ pub record Taken : Type 0 where
   pub len : ℕ
   pub buffer : List ℕ
 
-abbrev pub outside_of : Answered → List ℕ → Taken
-outside_of r b = record { answer = number_of r.answer; lone = r.lone; len = r.len; buffer = b }
-
 -- a refusal: record and buffer as they came
 abbrev pub refused_with : ℕ → LoneAccessPoint → List ℕ → Taken
 refused_with n l b = record { answer = n; lone = l; len = 0; buffer = b }
+
+-- the code's result at l, with what the buffer then holds: a refusal hands no record out, so that l stays
+abbrev pub outside_of : LoneAccessPoint → Result Answered Refusal → List ℕ → Taken
+outside_of l (Ok x) b = record { answer = 0; lone = x.lone; len = x.len; buffer = b }
+outside_of l (Err e) b = refused_with (refusal_number e) l b
 
 -- what the machine answers, its record put back
 abbrev pub taken_of : LoneAccessPoint → LoneAnswer → Taken
@@ -49,5 +53,4 @@ answer_done l from p b =
 
 -- the fields of the answer to the packet that was received
 abbrev pub reply_fields : Received → Reply → Fields
-reply_fields r y =
-    fields_as (message_of 2 y.status (take y.len y.context)) (record { identifier = r.identifier; station = r.station; sequence = r.sequence; message = message_of 2 y.status (take y.len y.context) })
+reply_fields r y = fields_as (message_in y) (record { identifier = r.identifier; station = r.station; sequence = r.sequence; message = message_in y })

@@ -1,31 +1,28 @@
 -- What an access point does at an event: a refusal by the first test that passes, and what is done where none passes.
 -- Assumes nothing.
-use Prim.Native.Nat.{ℕ, zero, suc, ◌+◌, ◌-◌, ◌%◌, ◌<◌, ◌≤◌}
+use Prim.Native.Nat.{ℕ, ◌-◌, ◌%◌, ◌<◌, ◌≤◌}
 use mathlib.Core.Path.{◌≡◌, refl, sym, ap, ◌∙◌}
 use mathlib.Core.Bool.{Bool, true, false, cond}
 use mathlib.Core.List.{List, [], ◌∷◌, map}
-use mathlib.Core.Option.{Option}
+use Rattle.std.specs.Prelude.{Option, None, Some}
 use native.Mathlib.Omega.{arith}
-use native.Mathlib.Nat.{not-suc-le-zero, le_of_suc-le-suc}
 use borrow.Author.Tests.{lt-ltb, le-ltb, ne_eqb}
 use lib.Dec.{ltb, eqb}
-use lib.ListN.{length, get_or, take, drop}
+use lib.ListN.{length, get_or}
 use Rattle.lists.specs.Table.{Test, first_of, accepts}
 use Rattle.lists.specs.Places.{every}
 use Rattle.lists.proofs.Choices.{and_left, and_right, and_true}
 use Rattle.lists.proofs.Fronts.{exact_ind}
 use Rattle.reader.specs.Read.{Reading, read_of, context_of}
-use Rattle.reader.proofs.Steps.{within, part_is, accepted_limits}
 use Rattle.elements.specs.declared.InFlight.{InFlight}
 use Rattle.elements.specs.declared.Move.{Move}
 use Rattle.machine.specs.Stations.{Station, is_group}
-use Rattle.machine.specs.Packets.{stale_move, Packet, Outgoing, packet_of, message_of, octets_in, carried}
+use Rattle.machine.specs.Packets.{stale_move, Packet, Outgoing, packet_of, octets_in, carried}
 use Rattle.machine.specs.Moves.{Open, nothing, opening, answering, waits, again, lapses, timed, fate, resent_by, resends, notices_of}
 use Rattle.machine.specs.AccessPoint as machine
 use Rattle.machine.specs.AccessPoint.{quietly, another, this, nowhere, origin_of, join_tests, join_from, leave_by, tick_by, answer_to, answering_with, receive}
 use Rattle.machine.specs.Events.{group_address}
 use Rattle.machine.proofs.Parts.{by_receipt}
-use Rattle.machine.proofs.Wire.{take_short}
 use Rattle.record.specs.declared.AccessPoint.{AccessPoint}
 use Rattle.record.specs.Lens.{get_moves, named, bare, get_point, put_point}
 use Rattle.record.proofs.LensLaws.{moves_got}
@@ -34,10 +31,11 @@ use Rattle.joining.specs.Join as joining
 use Rattle.joining.specs.Join.{sends_by, notice_from, join_done}
 use Rattle.joining.proofs.Laws.{notice_sends}
 use Rattle.receiving.specs.declared.Reply.{Reply}
-use Rattle.receiving.specs.Receive.{Result, replies_of, handled_by}
+use Rattle.receiving.specs.Receive.{Result, message_in, replies_of, handled_by}
 use Rattle.access_point.specs.declared.Ticking.{Ticking}
 use Rattle.access_point.specs.Tick.{tick_done}
 use Rattle.access_point.proofs.Ticks.{due_sends}
+use Rattle.in_flight.specs.declared.Outbox.{Outbox}
 use Rattle.in_flight.specs.Post.{outbox_of}
 use Rattle.sending.specs.Sends.{sequence_within}
 use Rattle.actions.specs.Done.{Done, unchanged_by, done_by, decided, off_floor, no_packet, tests_of_join, join_of, leave_of, tick_of, receive_of, lose_of}
@@ -174,53 +172,23 @@ unfolding receive quietly answering_with nothing answering
 none_lapses from p a =
     by_receipt (λ (x : machine.Action). 0 ≡ length x.happened.given_up) a from p (λ b e. refl) (λ x b e. refl) (λ m rs e. refl) p.message
 
--- the part of a packet's array that holds the context lies within the octets used
-
-take_front : (n l : ℕ) (xs : List ℕ) → l ≤ n → take l xs ≡ take l (take n xs)
-take_front n zero xs h = refl
-take_front zero (suc l) xs h = absurd (not-suc-le-zero h)
-take_front (suc n) (suc l) [] h = refl
-take_front (suc n) (suc l) (x ∷ xs) h = ap (λ (ys : List ℕ). x ∷ ys) (take_front n l xs (le_of_suc-le-suc h))
-
-part_front : (n i l : ℕ) (xs : List ℕ) → i + l ≤ n → take l (drop i xs) ≡ take l (drop i (take n xs))
-part_front n zero l xs h = take_front n l xs (omega arith)
-part_front zero (suc i) l xs h = absurd (omega arith)
-part_front (suc n) (suc i) l [] h = refl
-part_front (suc n) (suc i) l (x ∷ xs) h = part_front n i l xs (omega arith)
-
-module _ (p : InFlight) (r : Reading) (e : r ≡ read_of (octets_in p)) where
-  pub part_within : r.start + r.len ≤ p.len
-  unfolding octets_in
-  part_within = omega (arith, within (octets_in p), take_short p.len p.octets, ap (λ (x : Reading). x.start) e, ap (λ (x : Reading). x.len) e)
-
-  pub context_part : take (r.start + r.len - r.start) (drop r.start p.octets) ≡ context_of (octets_in p)
-  unfolding octets_in
-  context_part = part_front p.len r.start (r.start + r.len - r.start) p.octets (omega (arith, part_within)) ∙ part_is (octets_in p) r e
-
-  -- as many octets as a record can hold
-  pub context_short : (read_of (octets_in p)).answer ≡ 0 → length (take (r.start + r.len - r.start) (drop r.start p.octets)) ≤ 64
-  unfolding context_of
-  context_short h =
-      omega (arith, ap length context_part, take_short (read_of (octets_in p)).len (drop (read_of (octets_in p)).start (octets_in p)), (accepted_limits (octets_in p) h).1)
-
 pub receive_none : (i m : ℕ) (p : InFlight) (a : AccessPoint) → m ≤ i → unchanged_by 12 a ≡ receive_of i m p a
 unfolding receive_of
 receive_none i m p a h = refused_by_lem _ p.to a _ 12 (rw (le-ltb i m h)) (λ e. omega arith)
 
--- packet p, read as r with the context c: the record g and the answer y are what the machine's access point does
+-- packet p, read as r with the context c: the record g and the answer o are what the machine's access point does
 
 module _ (i m : ℕ) (p : InFlight) (a : AccessPoint) (l : i < m) (r : Reading) (c : List ℕ)
-    (er : r ≡ read_of (octets_in p)) (ec : c ≡ context_of (octets_in p)) (g : AccessPoint) (y : Reply)
-    (h : record { point = g; sends = replies_of p.from (packet_of r c) y } ≡ handled_by p.from (packet_of r c) a) where
+    (er : r ≡ read_of (octets_in p)) (ec : c ≡ context_of (octets_in p)) (g : AccessPoint) (o : Option Reply)
+    (h : record { point = g; sends = replies_of p.from (packet_of r c) o } ≡ handled_by p.from (packet_of r c) a) where
   abbrev action : machine.Action
   action = receive p.from (packet_of r c) (get_point a)
 
   -- with the answer, or with nothing sent
-  abbrev handled_with : Bool → Done
-  handled_with d =
-      record { answer = 0; point = g; sent = outbox_of (map (carried p.to) (cond d (answer_to p.from (packet_of r c) (message_of 2 y.status (take y.len y.context)) ∷ []) [])); given_up = 0 }
+  abbrev handled_with : Option Reply → Done
+  handled_with o = record { answer = 0; point = g; sent = outbox_of (map (carried p.to) (replies_of p.from (packet_of r c) o)); given_up = 0 }
 
-  handled : handled_with y.sent ≡ receive_of i m p a
+  handled : handled_with o ≡ receive_of i m p a
   unfolding receive_of done_by handled_by
   handled =
       ap (λ (x : Result). record { answer = 0; point = x.point; sent = outbox_of (map (carried p.to) x.sends); given_up = 0 }) h
@@ -228,16 +196,17 @@ module _ (i m : ℕ) (p : InFlight) (a : AccessPoint) (l : i < m) (r : Reading) 
       ∙ accepted_by (no_packet m i ∷ []) p.to a action (rw (lt-ltb i m l))
       ∙ (λ k. decided (no_packet m i ∷ []) p.to a (receive p.from (packet_of (er k) (ec k)) (get_point a)))
 
-  pub receive_silent : y.sent ≡ false → unchanged_by 0 g ≡ receive_of i m p a
-  receive_silent e = sym (ap handled_with e) ∙ handled
+  pub receive_silent : o ≡ None → (s : Outbox) → s ≡ outbox_of [] → record { answer = 0; point = g; sent = s; given_up = 0 } ≡ receive_of i m p a
+  receive_silent e s f = ap (λ (s : Outbox). record { answer = 0; point = g; sent = s; given_up = 0 }) f ∙ sym (ap handled_with e) ∙ handled
 
   -- the answer copies identifier, station and sequence number, and nothing of the message
-  pub receive_answered : y.sent ≡ true → (q : InFlight)
-      → q ≡ carried p.to (answer_to p.from (record { identifier = r.identifier; station = r.station; sequence = r.sequence; message = stale_move }) (message_of 2 y.status (take y.len y.context)))
-      → record { answer = 0; point = g; sent = outbox_of (q ∷ []); given_up = 0 } ≡ receive_of i m p a
+  pub receive_answered : (y : Reply) → o ≡ Some y
+      → (q : InFlight) → q ≡ carried p.to (answer_to p.from (record { identifier = r.identifier; station = r.station; sequence = r.sequence; message = stale_move }) (message_in y))
+      → (s : Outbox) → s ≡ outbox_of (q ∷ []) → record { answer = 0; point = g; sent = s; given_up = 0 } ≡ receive_of i m p a
   unfolding answer_to packet_of
-  receive_answered e q f =
-      ap (λ (x : InFlight). record { answer = 0; point = g; sent = outbox_of (x ∷ []); given_up = 0 }) f ∙ sym (ap handled_with e) ∙ handled
+  receive_answered y e q f s k =
+      ap (λ (s : Outbox). record { answer = 0; point = g; sent = s; given_up = 0 }) (k ∙ ap (λ (x : InFlight). outbox_of (x ∷ [])) f)
+      ∙ sym (ap handled_with e) ∙ handled
 
 -- lose
 

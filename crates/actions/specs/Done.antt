@@ -1,8 +1,8 @@
 -- What an access point does at an event, with the answer: what the code's struct means, and the definitions that the contracts cite.
-use Rattle.std.specs.Prelude.{ℕ, cond, not, List, [], ◌∷◌, map, ltb, length}
-use Rattle.std.proofs.Math.Option.{Option}
+use Rattle.std.specs.Prelude.{ℕ, cond, not, List, [], ◌∷◌, map, ltb, length, Option, Result, Ok, Err}
 use Rattle.lists.specs.Table.{Test, first_of, accepts}
-use Rattle.answers.specs.Numbers.{number_of}
+use Rattle.answers.specs.declared.Refusal.{Refusal}
+use Rattle.answers.specs.Numbers.{refusal_number, number_of}
 use Rattle.reader.specs.Read.{read_of, context_of}
 use Rattle.elements.specs.declared.InFlight.{InFlight}
 use Rattle.machine.specs.Stations.{Station}
@@ -28,13 +28,14 @@ pub record Done : Type 0 where
 abbrev pub done_of : Action → Done
 done_of x = record { answer = number_of x.answer; point = x.point; sent = x.sent; given_up = x.given_up }
 
--- a join, put back into the record a
-abbrev pub joining_of : AccessPoint → Joining → Done
-joining_of a x = record { answer = number_of x.answer; point = put_back a x.after; sent = x.sent; given_up = 0 }
-
 -- the record a as it came, and the answer n
 abbrev pub unchanged_by : ℕ → AccessPoint → Done
 unchanged_by n a = record { answer = n; point = a; sent = outbox_of []; given_up = 0 }
+
+-- a join, put back into the record a; refused, a as it came
+abbrev pub joining_of : AccessPoint → Result Joining Refusal → Done
+joining_of a (Ok x) = record { answer = 0; point = put_back a x.after; sent = x.sent; given_up = 0 }
+joining_of a (Err r) = unchanged_by (refusal_number r) a
 
 -- the access point b, with the record a, acts: its record is put back, and its packets are written
 unfoldable pub done_by : ℕ → AccessPoint → machine.Action → Done

@@ -1,7 +1,7 @@
 // What an access point does at an event: its answer, its record afterwards, and its packets, written and in order of sending.
 #![tactic(auto)]
 
-ghost use Rattle.std.specs.Prelude.{◌≡◌, true, [], map, ◌≤◌, ◌<◌};
+ghost use Rattle.std.specs.Prelude.{◌≡◌, true, [], map, ◌≤◌, ◌<◌, IfOk};
 ghost use Rattle.answers.specs.Numbers.{number_of};
 ghost use Rattle.machine.specs.Stations.{is_group};
 ghost use Rattle.lists.specs.Places.{every};
@@ -11,15 +11,15 @@ ghost use Rattle.record.specs.Valid.{Usable};
 ghost use Rattle.sending.specs.Sends.{sequence_within};
 ghost use Rattle.in_flight.specs.Post.{outbox_of};
 ghost use Rattle.excerpt.specs.Excerpts.{put_back, Allowed, Seen};
-ghost use Rattle.joining.specs.Join.{old_of, sends_by};
+ghost use Rattle.joining.specs.Join.{sends_by};
 ghost use Rattle.actions.specs.Done.{done_of, joining_of, unchanged_by, join_of, leave_of, tick_of, receive_of, lose_of};
 
-use answers::Answer;
+use answers::{Answer, Refusal};
 use elements::InFlight;
 use excerpt::Excerpt;
 use in_flight::Outbox;
-use joining::{Notice, Old};
-use record::AccessPoint;
+use joining::{Notice, Request};
+use record::{AccessPoint, Setup};
 
 #[derive(Clone, Copy)]
 pub struct Action {
@@ -59,117 +59,70 @@ fn notice_sent(own: u8, ap_count: u8, station: [u8; 6], sequence: u16, notice: N
             sending::announce(own, ap_count, identifier, station, sequence)
         }
         Notice::Notify(identifier, old) => {
-            let p = sending::move_notify(own, old, identifier, station, sequence);
-            sending::one(p)
+            sending::one(sending::move_notify(own, old, identifier, station, sequence))
         }
     }
 }
 
-// What a join does, on an excerpt of the AP's record for the station.
+// What an accepted join does, on an excerpt of the AP's record for the station.
 #[derive(Clone, Copy)]
 pub struct Joining {
-    pub answer: Answer,
     pub after: Excerpt,
     pub sent: Outbox,
 }
 
-fn refused(x: Excerpt, answer: Answer) -> Joining
-    ensures result_value { (a : AccessPoint) → joining_of a result ≡ record { answer = number_of answer; point = put_back a x; sent = outbox_of []; given_up = 0 } }
-    ensures after_value { result.after ≡ x }
-{
-    Joining {
-        answer,
-        after: x,
-        sent: sending::nothing(),
-    }
-}
-
-// A station joins AP `at` of ap_count: 11, 13, 7, 9, then the AP's own 15, 16, 17. Put back into the record that x is of, it is the machine's.
+// A station joins AP `at` of a floor: 11, 13, 7, 9, then the AP's own 15, 16, 17. Put back into the record that x is of, it is the machine's.
 pub fn join_excerpt(
     x: Excerpt,
     at: u16,
-    ap_count: u8,
-    timeout: u16,
-    resend_limit: u8,
-    station: [u8; 6],
-    sequence: u16,
-    old: Old,
+    setup: Setup,
+    request: Request,
     context: &[u8],
-) -> Joining
-    requires { ap_count ≤ 8 }
-    ensures result_value { (a : AccessPoint) → Seen station a x → joining_of a result ≡ join_of at ap_count timeout resend_limit station sequence (old_of old) context.now a }
-    ensures allowed { (a : AccessPoint) → Seen station a x → Allowed result.after.edit result.after.at a.associations.count }
+) -> Result<Joining, Refusal>
+    requires { setup.ap_count ≤ 8 }
+    ensures result_value { (a : AccessPoint) → Seen request.station a x → joining_of a result ≡ join_of at setup.ap_count setup.timeout setup.resend_limit request.station request.sequence request.old context.now a }
+    ensures allowed { (a : AccessPoint) → Seen request.station a x → IfOk result (λ j. Allowed j.after.edit j.after.at a.associations.count) }
 {
-    if ap_count as u16 <= at {
-        return refused(x, Answer::UnknownAccessPoint);
+    if setup.ap_count as u16 <= at {
+        return Err(Refusal::UnknownAccessPoint);
     }
-    if is_group(station) {
-        return refused(x, Answer::GroupAddress);
+    if is_group(request.station) {
+        return Err(Refusal::GroupAddress);
     }
-    if 4095 < sequence {
-        return refused(x, Answer::SequenceOutOfRange);
+    if 4095 < request.sequence {
+        return Err(Refusal::SequenceOutOfRange);
     }
     if 64 < context.len() {
-        return refused(x, Answer::WrongContext);
+        return Err(Refusal::WrongContext);
     }
     let own = at as u8;
-    let j = joining::join(
-        x,
-        own,
-        ap_count,
-        timeout,
-        resend_limit,
-        station,
-        sequence,
-        old,
-        context,
-    );
-    let answer = j.answer;
-    let after = j.after;
-    let notice = j.notice;
-    Joining {
-        answer,
-        after,
-        sent: notice_sent(own, ap_count, station, sequence, notice),
-    }
+    let j = joining::join(x, own, setup, request, context)?;
+    Ok(Joining {
+        after: j.after,
+        sent: notice_sent(
+            own,
+            setup.ap_count,
+            request.station,
+            request.sequence,
+            j.notice,
+        ),
+    })
 }
 
 // The same at the AP's whole record.
-pub fn join(
-    a: AccessPoint,
-    at: u16,
-    ap_count: u8,
-    timeout: u16,
-    resend_limit: u8,
-    station: [u8; 6],
-    sequence: u16,
-    old: Old,
-    context: &[u8],
-) -> Action
+pub fn join(a: AccessPoint, at: u16, setup: Setup, request: Request, context: &[u8]) -> Action
     requires usable { Usable a }
-    requires ap_count_bound { ap_count ≤ 8 }
-    ensures { done_of result ≡ join_of at ap_count timeout resend_limit station sequence (old_of old) context.now a }
+    requires ap_count_bound { setup.ap_count ≤ 8 }
+    ensures { done_of result ≡ join_of at setup.ap_count setup.timeout setup.resend_limit request.station request.sequence request.old context.now a }
 {
-    let x = excerpt::of(a, station);
-    let j = join_excerpt(
-        x,
-        at,
-        ap_count,
-        timeout,
-        resend_limit,
-        station,
-        sequence,
-        old,
-        context,
-    );
-    let answer = j.answer;
-    let after = j.after;
-    let sent = j.sent;
-    Action {
-        answer,
-        point: excerpt::put_back(a, after),
-        sent,
-        given_up: 0,
+    match join_excerpt(excerpt::of(a, request.station), at, setup, request, context) {
+        Ok(j) => Action {
+            answer: Ok(()),
+            point: excerpt::put_back(a, j.after),
+            sent: j.sent,
+            given_up: 0,
+        },
+        Err(r) => unchanged(a, Err(r)),
     }
 }
 
@@ -179,15 +132,13 @@ pub fn leave(a: AccessPoint, at: u16, ap_count: u8, station: [u8; 6]) -> Action
     ensures { done_of result ≡ leave_of at ap_count station a }
 {
     if ap_count as u16 <= at {
-        return unchanged(a, Answer::UnknownAccessPoint);
+        return unchanged(a, Err(Refusal::UnknownAccessPoint));
     }
     if is_group(station) {
-        return unchanged(a, Answer::GroupAddress);
+        return unchanged(a, Err(Refusal::GroupAddress));
     }
-    let x = excerpt::of(a, station);
-    let y = receiving::leave(x);
-    let b = excerpt::put_back(a, y);
-    unchanged(b, Answer::Accepted)
+    let left = receiving::leave(excerpt::of(a, station));
+    unchanged(excerpt::put_back(a, left), Ok(()))
 }
 
 // A tick at AP `at` of ap_count: 11, then the notices of the moves that are due are sent again.
@@ -197,15 +148,13 @@ pub fn tick(a: AccessPoint, at: u16, ap_count: u8, timeout: u16) -> Action
     ensures { done_of result ≡ tick_of at ap_count timeout a }
 {
     if ap_count as u16 <= at {
-        return unchanged(a, Answer::UnknownAccessPoint);
+        return unchanged(a, Err(Refusal::UnknownAccessPoint));
     }
     let t = access_point::tick(a, timeout);
-    let point = t.point;
-    let due = t.due;
     Action {
-        answer: Answer::Accepted,
-        point,
-        sent: sending::resend(at as u8, due),
+        answer: Ok(()),
+        point: t.point,
+        sent: sending::resend(at as u8, t.due),
         given_up: t.given_up,
     }
 }
@@ -217,27 +166,22 @@ pub fn receive(a: AccessPoint, p: InFlight, at: u16, count: usize) -> Action
     ensures { done_of result ≡ receive_of at count p a }
 {
     if count <= at as usize {
-        return unchanged(a, Answer::UnknownPacket);
+        return unchanged(a, Err(Refusal::UnknownPacket));
     }
-    let n = p.len;
-    let octets = p.octets;
-    let r = reader::read(&octets[..n]);
-    let start = r.start;
-    let end = start + r.len;
-    let station = r.station;
-    let x = excerpt::of(a, station);
-    let h = receiving::receive(x, p.from, r, &octets[start..end]);
-    let y = h.after;
-    let point = excerpt::put_back(a, y);
-    let reply = h.reply;
-    if !reply.sent {
-        return unchanged(point, Answer::Accepted);
-    }
-    let q = sending::response(p.to, p.from, r, reply);
+    let octets = &p.octets[..p.len];
+    let r = reader::fields(octets);
+    let end = r.start + r.len;
+    let x = excerpt::of(a, r.station);
+    let h = receiving::receive(x, p.from, r, &octets[r.start..end]);
+    let sent = match h.reply {
+        Some(reply) => sending::one(sending::response(p.to, p.from, r, reply)),
+        None => sending::nothing(),
+    };
+    let point = excerpt::put_back(a, h.after);
     Action {
-        answer: Answer::Accepted,
+        answer: Ok(()),
         point,
-        sent: sending::one(q),
+        sent,
         given_up: 0,
     }
 }
@@ -247,7 +191,7 @@ pub fn lose(a: AccessPoint, at: u16, count: usize) -> Action
     ensures { done_of result ≡ lose_of at count a }
 {
     if count <= at as usize {
-        return unchanged(a, Answer::UnknownPacket);
+        return unchanged(a, Err(Refusal::UnknownPacket));
     }
-    unchanged(a, Answer::Accepted)
+    unchanged(a, Ok(()))
 }

@@ -26,10 +26,8 @@ use Rattle.in_flight.specs.declared.Outbox.{Outbox}
 use Rattle.in_flight.specs.Post.{get_outbox, outbox_of}
 use Rattle.in_flight.proofs.Posted.{outbox_got}
 use Rattle.actions.specs.declared.Action.{Action}
-use Rattle.actions.specs.declared.Joining.{Joining}
-use Rattle.actions.specs.Done.{Done, done_of, joining_of, done_by, decided}
+use Rattle.actions.specs.Done.{Done, done_of, done_by, decided}
 use Rattle.actions.specs.contracts.Action as A
-use Rattle.actions.specs.contracts.Joining as J
 use Rattle.alone.specs.Front.{Sized, Packed}
 
 -- 82 octets
@@ -72,14 +70,9 @@ module _ (o : Outbox) (n : length o.items ≡ 8) (ss : All Slots o.items) where
       (λ q. packed b [])
       e
 
--- what an action sends, and what a join sends
+-- what an action sends
 
 pub action_packed : (x : Action) (vs : List Val) → Is (row A.the_type) x vs → (ts : List Test) (b : ℕ) (a : AccessPoint) (y : machine.Action) → done_of x ≡ decided ts b a y → Packed x.sent
 action_packed x vs g ts b a y e =
     let p = g.1.1.1.0.1.1.0 in
-    packed_by x.sent (p.1.0.1) (each_all (F.the_row).own_val x.sent.items p.0 (λ p u h. h.1.1.1.1.1.0.1.0.1) p.1.1) ts b a y (ap (λ (d : Done). d.sent) e)
-
-pub join_packed : (x : Joining) (vs : List Val) → Is (row J.the_type) x vs → (ts : List Test) (b : ℕ) (a : AccessPoint) (y : machine.Action) → joining_of a x ≡ decided ts b a y → Packed x.sent
-join_packed x vs g ts b a y e =
-    let p = g.1.1.1.1.0.1.1.0 in
     packed_by x.sent (p.1.0.1) (each_all (F.the_row).own_val x.sent.items p.0 (λ p u h. h.1.1.1.1.1.0.1.0.1) p.1.1) ts b a y (ap (λ (d : Done). d.sent) e)

@@ -1,6 +1,6 @@
 -- The calls of one access point alone, by computation: AP 1 of 3, with T = 2 and R = 0.
 use Rattle.std.specs.Prelude.{ℕ, ◌≡◌, refl, List, [], ◌∷◌, ◌++◌, replicate}
-use Rattle.std.proofs.Math.Option.{none, some}
+use Rattle.std.specs.Prelude.{None, Some}
 use Rattle.lists.specs.Places.{every}
 use Rattle.writer.specs.Write.{octets_of}
 use Rattle.machine.specs.Stations.{Station, is_group, same}
@@ -41,11 +41,11 @@ no_such_number = refl
 
 -- the old AP
 
-pub old_none : old_named 4294967295 ≡ none
+pub old_none : old_named 4294967295 ≡ None
 unfolding old_named
 old_none = refl
 
-pub old_far : old_named 65536 ≡ some 65535
+pub old_far : old_named 65536 ≡ Some 65535
 unfolding old_named
 old_far = refl
 
@@ -56,7 +56,7 @@ abbrev add : List ℕ
 add = 0 ∷ 0 ∷ 0 ∷ 0 ∷ 0 ∷ 16 ∷ 6 ∷ 0 ∷ station ++ (0 ∷ 10 ∷ [])
 
 abbrev join_with : Station → ℕ → ℕ → Told
-join_with s n size = join_alone new s n none (171 ∷ []) (replicate size 7)
+join_with s n size = join_alone new s n None (171 ∷ []) (replicate size 7)
 
 -- a join that names no old AP: one ADD-notify goes to AP 0 and one to AP 2. A buffer of 31 octets is 10. 13 comes before 7, and 7 before 10
 pub replies : (join_with station 10 33).outcome.reply ∷ (join_with station 10 31).outcome.reply ∷ (join_with group 4096 0).outcome.reply ∷ (join_with station 4096 0).outcome.reply ∷ []
@@ -73,7 +73,7 @@ buffers = refl
 
 -- after a join from AP 0: a move is open, and with R = 0 the second tick gives it up. The row stays
 abbrev moved : LoneAccessPoint
-moved = (join_alone new station 11 (some 0) [] (replicate 18 0)).outcome.lone
+moved = (join_alone new station 11 (Some 0) [] (replicate 18 0)).outcome.lone
 
 pub lapses : (let t = (tick_alone moved []).outcome in t.reply ∷ (tick_alone t.lone []).outcome.reply ∷ (who_alone moved station).reply ∷ (who_alone new station).reply ∷ [])
     ≡ reply_with 0

@@ -2,7 +2,7 @@
 -- calls: set-up, the events that it gives itself (join, leave, tick, who), and outside bytes. Each is an ordered table of tests and
 -- what the machine's access point does where none of them passes.
 use Rattle.std.specs.Prelude.{ℕ, min, ◌≡◌, refl, true, cond, ◌||◌, not, List, [], ◌∷◌, ◌++◌, map, ltb, eqb, length, drop, replicate}
-use Rattle.std.proofs.Math.Option.{Option, none, some}
+use Rattle.std.specs.Prelude.{Option, None, Some}
 use Rattle.lists.specs.Table.{Test, first_of, accepts}
 use Rattle.reader.specs.Read.{read_of}
 use Rattle.machine.specs.Stations.{Station}
@@ -96,7 +96,7 @@ set_up_alone l n k t r =
 
 -- the old AP that a join names by a number of 32 bits: the highest is none, and a number that 16 bits do not hold is no AP's
 unfoldable pub old_named : ℕ → Option ℕ
-old_named n = cond (eqb n 4294967295) none (some (min n 65535))
+old_named n = cond (eqb n 4294967295) None (Some (min n 65535))
 
 -- join of the station s numbered n, with the context c: 14, "13, 7, 9, then 15 ..; 16 ..; 17 ..", 10
 unfoldable pub join_alone : LoneAccessPoint → Station → ℕ → Option ℕ → List ℕ → List ℕ → Told

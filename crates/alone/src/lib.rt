@@ -4,15 +4,14 @@
 
 ghost use Rattle.std.specs.Prelude.{◌≡◌, ◌≤◌, length};
 ghost use Rattle.answers.specs.Numbers.{number_of};
-ghost use Rattle.joining.specs.Join.{old_of};
 ghost use Rattle.network.specs.Lens.{new_point};
 ghost use Rattle.alone.specs.Told.{told_of, reply_with, front_of, set_up_alone, old_named, join_alone, leave_alone, tick_alone, outside_alone, who_alone};
 ghost use Rattle.alone.specs.Front.{outbox_octets, outbox_receivers, Packed, posted_of, posted_into};
 
-use answers::Answer;
+use answers::{Answer, Refusal};
 use in_flight::Outbox;
-use joining::Old;
-use record::{AccessPoint, Associations, LoneAccessPoint};
+use joining::Request;
+use record::{AccessPoint, Associations, LoneAccessPoint, Setup};
 
 // What a call answers: document 01's number, how many packets were written and how many moves given up, whether the station has a
 // row, the receivers of the packets in order, and the length written. What a call has no use for is 0.
@@ -81,13 +80,13 @@ pub fn set_up(
     if !access_point::valid_setup(ap_count, timeout, resend_limit) {
         return Outcome {
             lone,
-            reply: reply_with(Answer::InvalidRecord),
+            reply: reply_with(Err(Refusal::InvalidRecord)),
         };
     }
     if ap_count <= number {
         return Outcome {
             lone,
-            reply: reply_with(Answer::InvalidRecord),
+            reply: reply_with(Err(Refusal::InvalidRecord)),
         };
     }
     let point = new_point();
@@ -98,7 +97,7 @@ pub fn set_up(
     lone.resend_limit = resend_limit as u8;
     Outcome {
         lone,
-        reply: reply_with(Answer::Accepted),
+        reply: reply_with(Ok(())),
     }
 }
 
@@ -163,7 +162,7 @@ fn post(buffer: &mut [u8], answer: Answer, sent: Outbox, given_up: u8) -> Reply
     }
     let len = length_of(sent);
     if buffer.len() < len {
-        return reply_with(Answer::BufferTooShort);
+        return reply_with(Err(Refusal::BufferTooShort));
     }
     write_all(buffer, sent);
     let count = sent.count as u8;
@@ -178,16 +177,16 @@ fn post(buffer: &mut [u8], answer: Answer, sent: Outbox, given_up: u8) -> Reply
 }
 
 // The old AP that a join names: 4294967295 is none, and a number above 65535 is no AP's.
-pub fn old_named(old: u32) -> Old
-    ensures { old_of result ≡ old_named old }
+pub fn old_named(old: u32) -> Option<u16>
+    ensures { result ≡ old_named old }
 {
     if old == 4294967295 {
-        return Old::Nothing;
+        return None;
     }
     if 65535 < old {
-        return Old::At(65535);
+        return Some(65535);
     }
-    Old::At(old as u16)
+    Some(old as u16)
 }
 
 // A station joins: 14, 13, 7, 9, 15, 16, 17, then 10 for a buffer too short for the packets.
@@ -204,29 +203,23 @@ pub fn join(
     if !access_point::valid_lone(lone) {
         return Outcome {
             lone,
-            reply: reply_with(Answer::InvalidRecord),
+            reply: reply_with(Err(Refusal::InvalidRecord)),
         };
     }
-    let a = lone.point;
-    let x = excerpt::of(a, *station);
-    let j = actions::join_excerpt(
-        x,
-        lone.number as u16,
-        lone.ap_count,
-        lone.timeout,
-        lone.resend_limit,
-        *station,
+    let setup = Setup {
+        ap_count: lone.ap_count,
+        timeout: lone.timeout,
+        resend_limit: lone.resend_limit,
+    };
+    let request = Request {
+        station: *station,
         sequence,
-        old_named(old),
-        context,
-    );
-    let answer = j.answer;
-    let sent = j.sent;
-    let reply = post(buffer, answer, sent, 0);
+        old: old_named(old),
+    };
+    let t = actions::join(lone.point, lone.number as u16, setup, request, context);
+    let reply = post(buffer, t.answer, t.sent, t.given_up);
     if reply.answer == 0 {
-        let after = j.after;
-        let point = excerpt::put_back(a, after);
-        lone.point = point;
+        lone.point = t.point;
     }
     Outcome { lone, reply }
 }
@@ -238,13 +231,13 @@ pub fn leave(mut lone: LoneAccessPoint, station: &[u8; 6]) -> Outcome
     if !access_point::valid_lone(lone) {
         return Outcome {
             lone,
-            reply: reply_with(Answer::InvalidRecord),
+            reply: reply_with(Err(Refusal::InvalidRecord)),
         };
     }
     if actions::is_group(*station) {
         return Outcome {
             lone,
-            reply: reply_with(Answer::GroupAddress),
+            reply: reply_with(Err(Refusal::GroupAddress)),
         };
     }
     let x = excerpt::of(lone.point, *station);
@@ -253,7 +246,7 @@ pub fn leave(mut lone: LoneAccessPoint, station: &[u8; 6]) -> Outcome
     lone.point = left;
     Outcome {
         lone,
-        reply: reply_with(Answer::Accepted),
+        reply: reply_with(Ok(())),
     }
 }
 
@@ -264,7 +257,7 @@ pub fn tick(mut lone: LoneAccessPoint, buffer: &mut [u8]) -> Outcome
     if !access_point::valid_lone(lone) {
         return Outcome {
             lone,
-            reply: reply_with(Answer::InvalidRecord),
+            reply: reply_with(Err(Refusal::InvalidRecord)),
         };
     }
     let a = lone.point;
@@ -283,16 +276,24 @@ pub fn tick(mut lone: LoneAccessPoint, buffer: &mut [u8]) -> Outcome
 pub fn outside(lone: LoneAccessPoint, buffer: &mut [u8], from: u16, packet: &[u8]) -> Outcome
     ensures { told_of result buffer.new ≡ outside_alone lone from packet.now buffer.old }
 {
-    let r = access_point::outside(lone, from, packet, buffer);
-    let after = r.lone;
-    let answer = r.answer;
-    let mut reply = reply_with(answer);
-    if 0 < r.len {
-        reply.sent = 1;
-        reply.to[0] = from as u8;
-        reply.len = r.len;
+    match access_point::outside(lone, from, packet, buffer) {
+        Ok(r) => {
+            let mut reply = reply_with(Ok(()));
+            if 0 < r.len {
+                reply.sent = 1;
+                reply.to[0] = from as u8;
+                reply.len = r.len;
+            }
+            Outcome {
+                lone: r.lone,
+                reply,
+            }
+        }
+        Err(refusal) => Outcome {
+            lone,
+            reply: reply_with(Err(refusal)),
+        },
     }
-    Outcome { lone: after, reply }
 }
 
 // Whether the AP has a row of the station: 14, 13.
@@ -302,18 +303,18 @@ pub fn who(lone: LoneAccessPoint, station: &[u8; 6]) -> Outcome
     if !access_point::valid_lone(lone) {
         return Outcome {
             lone,
-            reply: reply_with(Answer::InvalidRecord),
+            reply: reply_with(Err(Refusal::InvalidRecord)),
         };
     }
     let group = actions::is_group(*station);
     if group {
         return Outcome {
             lone,
-            reply: reply_with(Answer::GroupAddress),
+            reply: reply_with(Err(Refusal::GroupAddress)),
         };
     }
     let t = lone.point.associations;
-    let mut reply = reply_with(Answer::Accepted);
+    let mut reply = reply_with(Ok(()));
     if associations::find(t, *station) < t.count {
         reply.held = 1;
     }

@@ -2,14 +2,13 @@
 #![tactic(auto)]
 
 ghost use Rattle.std.specs.Prelude.{◌≡◌};
-ghost use Rattle.answers.specs.Numbers.{number_of};
+ghost use Rattle.answers.specs.Numbers.{refusal_number, number_of};
 
-// Document 01, "Refusals by origin": accepted, or the refusal that decides.
-#[derive(Clone, Copy)]
-pub enum Answer {
-    Accepted,
+// Document 01, "Refusals by origin": why a call is refused. Each refusal is its number there.
+#[derive(Clone, Copy, Debug, PartialEq, Eq)]
+pub enum Refusal {
     // Whoever sends a packet.
-    PacketTooShort,
+    PacketTooShort = 1,
     WrongVersion,
     UnknownCommand,
     PacketCut,
@@ -34,29 +33,24 @@ pub enum Answer {
     UnreadableLine,
 }
 
+// What a call answers: it is accepted, or the refusal that decides.
+pub type Answer = Result<(), Refusal>;
+
+// Document 01's number of a refusal.
+impl From<Refusal> for u8 {
+    ghost from_gives = { λ r n. n ≡ refusal_number r };
+
+    fn from(r: Refusal) -> u8 {
+        r as u8
+    }
+}
+
 // Document 01's number of an answer: 0, or the refusal's.
 pub fn number(a: Answer) -> u8
     ensures { result ≡ number_of a }
 {
     match a {
-        Answer::Accepted => 0,
-        Answer::PacketTooShort => 1,
-        Answer::WrongVersion => 2,
-        Answer::UnknownCommand => 3,
-        Answer::PacketCut => 4,
-        Answer::WrongLength => 5,
-        Answer::WrongAddressLength => 6,
-        Answer::SequenceOutOfRange => 7,
-        Answer::UnknownStatus => 8,
-        Answer::WrongContext => 9,
-        Answer::BufferTooShort => 10,
-        Answer::UnknownAccessPoint => 11,
-        Answer::UnknownPacket => 12,
-        Answer::GroupAddress => 13,
-        Answer::InvalidRecord => 14,
-        Answer::NotNewer => 15,
-        Answer::TableFull => 16,
-        Answer::MovesFull => 17,
-        Answer::UnreadableLine => 18,
+        Ok(()) => 0,
+        Err(r) => u8::from(r),
     }
 }

@@ -4,13 +4,12 @@ use Prim.Native.Nat.{ℕ, zero, suc, ◌+◌, ◌%◌, ◌<◌, ◌≤◌}
 use mathlib.Core.Path.{◌≡◌, refl, sym, ap, subst, ◌∙◌}
 use mathlib.Core.Bool.{Bool, true, false, cond}
 use mathlib.Core.List.{List, [], ◌∷◌}
-use mathlib.Core.Option.{some}
+use Rattle.std.specs.Prelude.{Some, is_some}
 use mathlib.Core.Logic.{◌⊎◌, inl, inr}
 use native.Mathlib.Nat.{not-suc-le-zero, le_of_suc-le-suc, eq-or-lt_of_le}
 use native.Mathlib.Omega.{arith}
 use lib.ListN.{length, take, get_or, set}
 use lib.Seq.{length-take-le, get_or-set_same}
-use Rattle.lists.specs.Options.{is_some}
 use Rattle.lists.specs.Search.{index_by}
 use Rattle.lists.proofs.Choices.{and_false, not_both}
 use Rattle.lists.proofs.Every.{get_or_set}
@@ -58,7 +57,7 @@ held s [] k l e = absurd (not-suc-le-zero l)
 held s (r ∷ rs) zero l e = rw (same_of_eq s r.station e)
 held s (r ∷ rs) (suc k) l e = go (same s r.station) (held s rs k (le_of_suc-le-suc l) e)
   where
-    go : (b : Bool) → is_some (sequence_of s rs) ≡ true → is_some (cond b (some r.sequence) (sequence_of s rs)) ≡ true
+    go : (b : Bool) → is_some (sequence_of s rs) ≡ true → is_some (cond b (Some r.sequence) (sequence_of s rs)) ≡ true
     go true h = refl
     go false h = h
 

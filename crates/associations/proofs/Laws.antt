@@ -4,13 +4,13 @@ use Prim.Native.Nat.{ℕ, suc, ◌+◌, ◌-◌, ◌<◌, ◌≤◌}
 use mathlib.Core.Path.{◌≡◌, refl, sym, ap, subst, ◌∙◌}
 use mathlib.Core.Bool.{Bool, true, false, cond, ◌&&◌, not, false≢true}
 use mathlib.Core.List.{List, [], ◌∷◌}
-use mathlib.Core.Option.{none, some}
+use Rattle.std.specs.Prelude.{None, Some, is_some}
 use native.Mathlib.Numerals.{add-one}
 use native.Mathlib.Omega.{arith}
 use borrow.Author.Tests.{ltb-true, ltb-false, lt-ltb, le-ltb, eqb-true, not-true}
 use lib.Dec.{ltb, eqb}
 use lib.ListN.{length, get_or, length-set, length-append}
-use Rattle.lists.specs.Options.{case_option, is_some}
+use Rattle.lists.specs.Options.{case_option}
 use Rattle.lists.specs.Places.{without}
 use Rattle.lists.specs.Search.{index_by, placed}
 use Rattle.lists.proofs.Bools.{by_cond}
@@ -83,7 +83,7 @@ module _ {A : Type 0} where
   head_filled false x y xs = refl
 
   -- a choice by an option, where the option is a choice
-  chosen : (b : Bool) (q : ℕ) (t : ℕ → Bool) (xs ys : List A) → case_option (cond b (some q) none) ys (λ m. cond (t m) xs ys) ≡ cond (b && t q) xs ys
+  chosen : (b : Bool) (q : ℕ) (t : ℕ → Bool) (xs ys : List A) → case_option (cond b (Some q) None) ys (λ m. cond (t m) xs ys) ≡ cond (b && t q) xs ys
   chosen true q t xs ys = refl
   chosen false q t xs ys = refl
 
@@ -110,10 +110,10 @@ module _ (s : List ℕ) where
   holds_at = by_place s (λ rs b i. is_some (sequence_of s rs) ≡ b) refl (λ r rs e. rw e) (λ r rs b i e h. rw e h)
 
   pub sequence_at : (d : Association) (rs : List Association)
-      → sequence_of s rs ≡ cond (ltb (index_by (is_of s) rs) (length rs)) (some (get_or rs (index_by (is_of s) rs) d).sequence) none
+      → sequence_of s rs ≡ cond (ltb (index_by (is_of s) rs) (length rs)) (Some (get_or rs (index_by (is_of s) rs) d).sequence) None
   unfolding sequence_of
   sequence_at d =
-      by_place s (λ rs b i. sequence_of s rs ≡ cond b (some (get_or rs i d).sequence) none) refl (λ r rs e. rw e) (λ r rs b i e h. rw e h)
+      by_place s (λ rs b i. sequence_of s rs ≡ cond b (Some (get_or rs i d).sequence) None) refl (λ r rs e. rw e) (λ r rs b i e h. rw e h)
 
   pub context_at : (d : Association) (rs : List Association)
       → held_context s rs
@@ -136,7 +136,7 @@ module _ (s : List ℕ) where
   none_gone [] h = refl
   none_gone (r ∷ rs) h = go (same s r.station) h (none_gone rs)
     where
-      go : (b : Bool) → is_some (cond b (some r.sequence) (sequence_of s rs)) ≡ false → (is_some (sequence_of s rs) ≡ false → dissociate s rs ≡ rs)
+      go : (b : Bool) → is_some (cond b (Some r.sequence) (sequence_of s rs)) ≡ false → (is_some (sequence_of s rs) ≡ false → dissociate s rs ≡ rs)
           → cond b (dissociate s rs) (r ∷ dissociate s rs) ≡ r ∷ rs
       go true h f = not_both refl h
       go false h f = ap (λ (l : List Association). r ∷ l) (f h)
@@ -146,7 +146,7 @@ module _ (s : List ℕ) where
   none_filled n c [] h = refl
   none_filled n c (r ∷ rs) h = go (same s r.station) h (none_filled n c rs)
     where
-      go : (b : Bool) → is_some (cond b (some r.sequence) (sequence_of s rs)) ≡ false → (is_some (sequence_of s rs) ≡ false → fill s n c rs ≡ rs)
+      go : (b : Bool) → is_some (cond b (Some r.sequence) (sequence_of s rs)) ≡ false → (is_some (sequence_of s rs) ≡ false → fill s n c rs ≡ rs)
           → cond (b && eqb n r.sequence) (association r.station r.sequence (given c)) r ∷ fill s n c rs ≡ r ∷ rs
       go true h f = not_both refl h
       go false h f = ap (λ (l : List Association). r ∷ l) (f h)

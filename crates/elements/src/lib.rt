@@ -4,7 +4,7 @@
 
 // Document 01: a row of an AP's table.
 #[repr(C)]
-#[derive(Clone, Copy)]
+#[derive(Clone, Copy, Debug, PartialEq, Eq)]
 pub struct Association {
     pub station: [u8; 6],
     pub sequence: u16,
@@ -15,7 +15,7 @@ pub struct Association {
 
 // Document 01: an open move.
 #[repr(C)]
-#[derive(Clone, Copy)]
+#[derive(Clone, Copy, Debug, PartialEq, Eq)]
 pub struct Move {
     pub station: [u8; 6],
     pub sequence: u16,
@@ -28,7 +28,7 @@ pub struct Move {
 
 // Document 01: a packet in the air, as octets, with sender and receiver. The longest packet has 82 octets.
 #[repr(C)]
-#[derive(Clone, Copy)]
+#[derive(Clone, Copy, Debug, PartialEq, Eq)]
 pub struct InFlight {
     pub from: u8,
     pub to: u8,

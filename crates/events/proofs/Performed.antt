@@ -4,7 +4,7 @@ use Prim.Native.Nat.{ℕ, zero, suc, ◌≤◌, ◌<◌}
 use mathlib.Core.Path.{◌≡◌, refl, sym, ap, ◌∙◌}
 use mathlib.Core.Bool.{Bool, true, false, cond, ◌&&◌}
 use mathlib.Core.List.{List, [], ◌∷◌}
-use mathlib.Core.Option.{Option, some}
+use Rattle.std.specs.Prelude.{Option, Some}
 use native.Mathlib.Nat.{not-suc-le-zero, le_of_suc-le-suc}
 use borrow.Author.Tests.{ltb-true}
 use lib.Dec.{ltb}
@@ -38,7 +38,7 @@ use Rattle.events.proofs.Stored.{point_at, refused_is, unchanged_is, lost_is, ac
 use Rattle.events.proofs.Within.{packet_at}
 
 -- packet i of n
-nth_used : {A : Type 0} (n i : ℕ) (xs : List A) (d : A) → i < n → n ≤ length xs → nth i (take n xs) ≡ some (get_or xs i d)
+nth_used : {A : Type 0} (n i : ℕ) (xs : List A) (d : A) → i < n → n ≤ length xs → nth i (take n xs) ≡ Some (get_or xs i d)
 unfolding nth
 nth_used zero i xs d l k = absurd (not-suc-le-zero l)
 nth_used (suc n) i [] d l k = absurd (not-suc-le-zero k)

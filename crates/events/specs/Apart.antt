@@ -1,7 +1,7 @@
 -- An event taken apart, so that whoever holds a network stores what changes and copies nothing else: the packet that it is about, the
 -- access point that acts, what that does, and what is stored then. `performed` (proofs/Performed.antt) says that this is the machine's step.
 use Rattle.std.specs.Prelude.{ℕ, Bool, false, cond, List, ltb, set}
-use Rattle.std.proofs.Math.Option.{Option}
+use Rattle.std.specs.Prelude.{Option}
 use Rattle.std.specs.Int.Count.{ones}
 use Rattle.lists.specs.Places.{without}
 use Rattle.elements.specs.declared.InFlight.{InFlight}

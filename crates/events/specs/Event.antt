@@ -1,7 +1,6 @@
 -- What the code's structs mean: an event, in document 01's numbers.
 use Rattle.std.specs.Prelude.{ℕ, Bool, true, false, List}
-use Rattle.std.proofs.Math.Option.{Option}
-use Rattle.joining.specs.Join.{old_of}
+use Rattle.std.specs.Prelude.{Option}
 use Rattle.machine.specs.Stations.{Station}
 use Rattle.machine.specs.Events as machine
 use Rattle.events.specs.declared.Kind.{Kind}
@@ -30,4 +29,4 @@ is_who Who = true
 
 -- the event e with the context c
 abbrev pub event_from : Event → List ℕ → machine.Event
-event_from e c = event_as e.kind e.at e.station e.sequence (old_of e.old) c
+event_from e c = event_as e.kind e.at e.station e.sequence e.old c

@@ -8,22 +8,20 @@ ghost use Rattle.machine.specs.Packets.{readable, octets_in};
 ghost use Rattle.machine.specs.Events.{held_by, holds};
 ghost use Rattle.record.specs.Lens.{get_moves, get_point};
 ghost use Rattle.record.specs.Valid.{Usable};
-ghost use Rattle.joining.specs.Join.{old_of};
 ghost use Rattle.sending.specs.Sends.{sequence_within};
 ghost use Rattle.actions.specs.Done.{done_of};
 ghost use Rattle.events.specs.Event.{is_who};
 ghost use Rattle.events.specs.Apart.{packet_for, point_for, taken_for, action_for, settled_by};
 
 use actions::Action;
-use answers::Answer;
 use elements::InFlight;
 use in_flight::Outbox;
-use joining::Old;
+use joining::Request;
 use network::InFlights;
-use record::AccessPoint;
+use record::{AccessPoint, Setup};
 
 // Document 01, "The floor machine": the seven events.
-#[derive(Clone, Copy)]
+#[derive(Clone, Copy, Debug, PartialEq, Eq)]
 pub enum Kind {
     Join,
     Leave,
@@ -35,23 +33,13 @@ pub enum Kind {
 }
 
 // An event but for a join's context. `at` is the AP, or the packet for deliver, repeat and lose. What an event has no use for is ignored.
-#[derive(Clone, Copy)]
+#[derive(Clone, Copy, Debug, PartialEq, Eq)]
 pub struct Event {
     pub kind: Kind,
     pub at: u16,
     pub station: [u8; 6],
     pub sequence: u16,
-    pub old: Old,
-}
-
-// The number `at`, where it is below `count`, else 0.
-fn place(at: u16, count: usize) -> usize
-    ensures { result ≡ cond (ltb at count) at 0 }
-{
-    if (at as usize) < count {
-        return at as usize;
-    }
-    0
+    pub old: Option<u16>,
 }
 
 // The packet that the event is about, of `count` in flight; 0 where it is about none.
@@ -59,34 +47,9 @@ pub fn packet_of(kind: Kind, at: u16, count: usize) -> usize
     ensures { result ≡ packet_for kind at count }
 {
     match kind {
-        Kind::Join => 0,
-        Kind::Leave => 0,
-        Kind::Deliver => place(at, count),
-        Kind::Repeat => place(at, count),
-        Kind::Lose => place(at, count),
-        Kind::Tick => 0,
-        Kind::Who => 0,
+        Kind::Deliver | Kind::Repeat | Kind::Lose if (at as usize) < count => at as usize,
+        _ => 0,
     }
-}
-
-// The AP `at`, where it is on a floor of ap_count, else 0.
-fn named(at: u16, ap_count: u8) -> u8
-    ensures { result ≡ cond (ltb at ap_count) at 0 }
-{
-    if at < ap_count as u16 {
-        return at as u8;
-    }
-    0
-}
-
-// The AP `to`, where there is a packet `at` of `count`, else 0.
-fn receiver(at: u16, count: usize, to: u8) -> u8
-    ensures { result ≡ cond (ltb at count) to 0 }
-{
-    if (at as usize) < count {
-        return to;
-    }
-    0
 }
 
 // The AP that acts, of ap_count; 0 where none does. The packet goes to the AP `to`.
@@ -94,13 +57,9 @@ pub fn point_of(kind: Kind, at: u16, ap_count: u8, count: usize, to: u8) -> u8
     ensures { result ≡ point_for kind at ap_count count to }
 {
     match kind {
-        Kind::Join => named(at, ap_count),
-        Kind::Leave => named(at, ap_count),
-        Kind::Deliver => receiver(at, count, to),
-        Kind::Repeat => receiver(at, count, to),
-        Kind::Lose => 0,
-        Kind::Tick => named(at, ap_count),
-        Kind::Who => 0,
+        Kind::Join | Kind::Leave | Kind::Tick if at < ap_count as u16 => at as u8,
+        Kind::Deliver | Kind::Repeat if (at as usize) < count => to,
+        _ => 0,
     }
 }
 
@@ -108,69 +67,51 @@ pub fn point_of(kind: Kind, at: u16, ap_count: u8, count: usize, to: u8) -> u8
 pub fn takes(kind: Kind, at: u16, count: usize) -> bool
     ensures { result ≡ taken_for kind at count }
 {
-    match kind {
-        Kind::Join => false,
-        Kind::Leave => false,
-        Kind::Deliver => (at as usize) < count,
-        Kind::Repeat => false,
-        Kind::Lose => (at as usize) < count,
-        Kind::Tick => false,
-        Kind::Who => false,
-    }
+    matches!(kind, Kind::Deliver | Kind::Lose) && (at as usize) < count
 }
 
 // Whether the event is a who, at which no AP acts.
 pub fn is_who(kind: Kind) -> bool
     ensures { result ≡ is_who kind }
 {
-    match kind {
-        Kind::Join => false,
-        Kind::Leave => false,
-        Kind::Deliver => false,
-        Kind::Repeat => false,
-        Kind::Lose => false,
-        Kind::Tick => false,
-        Kind::Who => true,
-    }
+    kind == Kind::Who
 }
 
 // What the AP that acts does: its record is a, and the packet is p.
 pub fn action(
     e: Event,
     context: &[u8],
-    ap_count: u8,
-    timeout: u16,
-    resend_limit: u8,
+    setup: Setup,
     count: usize,
     a: AccessPoint,
     p: InFlight,
 ) -> Action
     requires usable { Usable a }
-    requires moves_value { (every sequence_within (get_moves a.moves) ≡ true) × (ap_count ≤ 8) }
+    requires moves_value { (every sequence_within (get_moves a.moves) ≡ true) × (setup.ap_count ≤ 8) }
     requires len_bound { e.at < count → (p.len ≤ 82) × (readable (octets_in p) ≡ true) }
-    ensures { done_of result ≡ action_for e.kind e.at e.station e.sequence (old_of e.old) context.now ap_count timeout resend_limit count a p }
+    ensures { done_of result ≡ action_for e.kind e.at e.station e.sequence e.old context.now setup.ap_count setup.timeout setup.resend_limit count a p }
 {
-    let kind = e.kind;
-    let at = e.at;
-    let station = e.station;
-    let old = e.old;
+    let Event {
+        kind,
+        at,
+        station,
+        sequence,
+        old,
+    } = e;
     match kind {
-        Kind::Join => actions::join(
-            a,
-            at,
-            ap_count,
-            timeout,
-            resend_limit,
-            station,
-            e.sequence,
-            old,
-            context,
-        ),
-        Kind::Leave => actions::leave(a, at, ap_count, station),
+        Kind::Join => {
+            let request = Request {
+                station,
+                sequence,
+                old,
+            };
+            actions::join(a, at, setup, request, context)
+        }
+        Kind::Leave => actions::leave(a, at, setup.ap_count, station),
         Kind::Deliver | Kind::Repeat => actions::receive(a, p, at, count),
         Kind::Lose => actions::lose(a, at, count),
-        Kind::Tick => actions::tick(a, at, ap_count, timeout),
-        Kind::Who => actions::unchanged(a, Answer::Accepted),
+        Kind::Tick => actions::tick(a, at, setup.ap_count, setup.timeout),
+        Kind::Who => actions::unchanged(a, Ok(())),
     }
 }
 
@@ -193,10 +134,7 @@ pub fn held_from(a: AccessPoint, station: [u8; 6], held: u8) -> u8
     ensures { result ≡ cond (holds station (get_point a)) 1 0 + 2 * held }
 {
     let t = a.associations;
-    if associations::find(t, station) < t.count {
-        return held * 2 + 1;
-    }
-    held * 2
+    held * 2 + u8::from(associations::find(t, station) < t.count)
 }
 
 // HELD: bit i is set if AP i has a row of the station.
@@ -208,8 +146,7 @@ pub fn holders(points: [AccessPoint; 8], ap_count: u8, station: [u8; 6]) -> u8
     let mut i = ap_count as usize;
     while 0 < i {
         i -= 1;
-        let a = points[i];
-        held = held_from(a, station, held);
+        held = held_from(points[i], station, held);
     }
     held
 }

@@ -9,7 +9,6 @@ use Rattle.lists.specs.Places.{All}
 use Rattle.machine.specs.Events.{Event, Octet, StationIn, Formed}
 use Rattle.machine.specs.Valid.{valid_setup}
 use Rattle.answers.specs.Numbers.{number_of}
-use Rattle.joining.specs.Join.{old_of}
 use Rattle.network.specs.declared.Network.{Network}
 use Rattle.network.specs.Lens.{new_network}
 use Rattle.network.specs.Events as floor
@@ -90,7 +89,7 @@ delivered n t r s h a es rs z c =
 pub formed : (e : call.Event) (c : List ℕ) → StationIn e.station → All Octet c → Formed (event_from e c)
 formed e c s o = go e.kind
   where
-    go : (k : Kind) → Formed (event_as k e.at e.station e.sequence (old_of e.old) c)
+    go : (k : Kind) → Formed (event_as k e.at e.station e.sequence e.old c)
     go Join = (s, o)
     go Leave = tt
     go Deliver = tt

@@ -2,21 +2,19 @@
 #![tactic(auto)]
 
 ghost use Rattle.std.specs.Prelude.{◌≡◌, true, false, [], replicate};
-ghost use Rattle.std.proofs.Math.Option.{none};
+ghost use Rattle.std.specs.Prelude.{None};
 ghost use Rattle.answers.specs.Numbers.{number_of};
 ghost use Rattle.machine.specs.Events as machine;
 ghost use Rattle.machine.specs.Events.{step};
-ghost use Rattle.joining.specs.Join.{old_of};
 ghost use Rattle.network.specs.Lens.{get, new_point, new_network};
 ghost use Rattle.network.specs.Events.{valid_network_record, reply_of, event_of};
 ghost use Rattle.events.specs.Event.{is_who, event_as, event_from};
 ghost use Rattle.floor_link.specs.Answered.{set_up_of, set_up_done, line_from, answer_alone, reply_from};
 
-use answers::Answer;
+use answers::{Answer, Refusal};
 use events::{Event, Kind};
-use joining::Old;
 use network::Network;
-use record::{AccessPoint, Associations};
+use record::{AccessPoint, Associations, Setup};
 
 // ANSWER, SENT, GIVENUP, HELD and TABLES.
 #[derive(Clone, Copy)]
@@ -83,12 +81,12 @@ pub fn set_up(ap_count: u16, timeout: u16, resend_limit: u16) -> SetUp
 {
     if !access_point::valid_setup(ap_count, timeout, resend_limit) {
         return SetUp {
-            answer: Answer::InvalidRecord,
+            answer: Err(Refusal::InvalidRecord),
             network: new_network(0, 0, 0),
         };
     }
     SetUp {
-        answer: Answer::Accepted,
+        answer: Ok(()),
         network: new_network(ap_count as u8, timeout, resend_limit as u8),
     }
 }
@@ -132,16 +130,12 @@ fn change(mut network: Network, e: Event, context: &[u8]) -> Reply
     let p = t.items[k];
     let b = events::point_of(kind, at, n, count, p.to) as usize;
     let a = network.points[b];
-    let x = events::action(
-        e,
-        context,
-        n,
-        network.timeout,
-        network.resend_limit,
-        count,
-        a,
-        p,
-    );
+    let setup = Setup {
+        ap_count: n,
+        timeout: network.timeout,
+        resend_limit: network.resend_limit,
+    };
+    let x = events::action(e, context, setup, count, a, p);
     let answer = x.answer;
     let point = x.point;
     let sent = x.sent;
@@ -183,7 +177,7 @@ fn look_up(network: Network, station: [u8; 6]) -> Reply
 {
     if actions::is_group(station) {
         return Reply {
-            line: answer_line(Answer::GroupAddress),
+            line: answer_line(Err(Refusal::GroupAddress)),
             network,
         };
     }
@@ -191,7 +185,7 @@ fn look_up(network: Network, station: [u8; 6]) -> Reply
     let held = events::holders(points, network.ap_count, station);
     Reply {
         line: Line {
-            answer: Answer::Accepted,
+            answer: Ok(()),
             sent: 0,
             given_up: 0,
             held,
@@ -220,7 +214,7 @@ pub fn event(network: Network, e: Event, context: &[u8]) -> Reply
 {
     if !valid(network) {
         return Reply {
-            line: answer_line(Answer::InvalidRecord),
+            line: answer_line(Err(Refusal::InvalidRecord)),
             network,
         };
     }
@@ -233,10 +227,10 @@ pub fn join(
     at: u16,
     station: [u8; 6],
     sequence: u16,
-    old: Old,
+    old: Option<u16>,
     context: &[u8],
 ) -> Reply
-    ensures { reply_from result ≡ event_of network (machine.join at station sequence (old_of old) context.now) }
+    ensures { reply_from result ≡ event_of network (machine.join at station sequence old context.now) }
 {
     let e = Event {
         kind: Kind::Join,
@@ -250,17 +244,16 @@ pub fn join(
 
 // An event that has a number and nothing else.
 fn numbered(network: Network, kind: Kind, at: u16) -> Reply
-    ensures { reply_from result ≡ event_of network (event_as kind at (replicate 6 0) 0 none []) }
+    ensures { reply_from result ≡ event_of network (event_as kind at (replicate 6 0) 0 None []) }
 {
     let e = Event {
         kind,
         at,
         station: [0u8; 6],
         sequence: 0,
-        old: Old::Nothing,
+        old: None,
     };
-    let context = [0u8; 1];
-    event(network, e, &context[..0])
+    event(network, e, &[])
 }
 
 // A station leaves AP `at`: 14, 11, 13.
@@ -272,10 +265,9 @@ pub fn leave(network: Network, at: u16, station: [u8; 6]) -> Reply
         at,
         station,
         sequence: 0,
-        old: Old::Nothing,
+        old: None,
     };
-    let context = [0u8; 1];
-    event(network, e, &context[..0])
+    event(network, e, &[])
 }
 
 // Packet `at` is taken out and handed to its receiver: 14, 12.
@@ -315,8 +307,7 @@ pub fn who(network: Network, station: [u8; 6]) -> Reply
         at: 0,
         station,
         sequence: 0,
-        old: Old::Nothing,
+        old: None,
     };
-    let context = [0u8; 1];
-    event(network, e, &context[..0])
+    event(network, e, &[])
 }

@@ -1,11 +1,11 @@
 -- Laws of a join at one access point's record.
 -- Assumes nothing.
 use Rattle.std.proofs.Common.{◌≡◌, ℕ, ◌+◌, ◌%◌, ◌^◌, ◌<◌, ◌≤◌, Bool, true, false, cond, not, ◌&&◌, ltb, leb, List, [], ◌∷◌, ◌++◌, map, length, get_or, sym, refl, ap, ◌∙◌, arith, ltb-true, le-ltb, lt-ltb, eq-eqb, ne_eqb, le-leb, leb-false}
-use mathlib.Core.Option.{none, some}
+use Rattle.std.specs.Prelude.{None, Some, is_some}
 use borrow.Author.Tests.{lt-leb, not-false}
 use lib.ListN.{length-map}
 use Rattle.lists.specs.Table.{Test, first_of}
-use Rattle.lists.specs.Options.{case_option, is_some}
+use Rattle.lists.specs.Options.{case_option}
 use Rattle.lists.specs.Search.{index_by, placed}
 use Rattle.lists.proofs.Tables.{none_pass}
 use Rattle.lists.proofs.Choices.{not_both}
@@ -55,19 +55,19 @@ module _ (i k q n m : ℕ) (moving : Bool) where
 
 -- where the old AP is
 
-pub origin_none : (k b : ℕ) → nowhere ≡ origin_of k b none
+pub origin_none : (k b : ℕ) → nowhere ≡ origin_of k b None
 unfolding origin_of
 origin_none k b = refl
 
-pub origin_this : (k b o : ℕ) → o ≡ b → this ≡ origin_of k b (some o)
+pub origin_this : (k b o : ℕ) → o ≡ b → this ≡ origin_of k b (Some o)
 unfolding origin_of
 origin_this k b o e = rw (eq-eqb o b e)
 
-pub origin_another : (k b o : ℕ) → (o ≡ b → ⊥) → o < k → another o ≡ origin_of k b (some o)
+pub origin_another : (k b o : ℕ) → (o ≡ b → ⊥) → o < k → another o ≡ origin_of k b (Some o)
 unfolding origin_of
 origin_another k b o e h = rw (ne_eqb o b e, lt-ltb o k h)
 
-pub origin_off : (k b o : ℕ) → (o ≡ b → ⊥) → k ≤ o → nowhere ≡ origin_of k b (some o)
+pub origin_off : (k b o : ℕ) → (o ≡ b → ⊥) → k ≤ o → nowhere ≡ origin_of k b (Some o)
 unfolding origin_of
 origin_off k b o e h = rw (ne_eqb o b e, le-ltb o k h)
 
@@ -158,7 +158,7 @@ moving_is Nowhere = refl
 
 by_option : (b : Bool) (q n : ℕ) (f : Bool) (ts : List Test)
     → first_of ((b && not (newer_of n q), 15) ∷ (not b && f, 16) ∷ ts)
-    ≡ first_of ((case_option (cond b (some q) none) false (λ m. not (newer_of n m)), 15) ∷ (not (is_some (cond b (some q) none)) && f, 16) ∷ ts)
+    ≡ first_of ((case_option (cond b (Some q) None) false (λ m. not (newer_of n m)), 15) ∷ (not (is_some (cond b (Some q) None)) && f, 16) ∷ ts)
 by_option true q n f ts = refl
 by_option false q n f ts = refl
 

@@ -1,8 +1,8 @@
 -- A join at one access point's record: what the code's enums mean, and the one definition that the contract cites.
-use Rattle.std.specs.Prelude.{ℕ, Bool, true, false, cond, not, ◌&&◌, List, [], ◌∷◌, nat_le, nat_lt}
-use Rattle.std.proofs.Math.Option.{Option, none, some}
+use Rattle.std.specs.Prelude.{ℕ, Bool, true, false, cond, not, ◌&&◌, List, [], ◌∷◌, nat_le, nat_lt, Result, Ok, Err}
 use Rattle.lists.specs.Table.{Test, first_of, accepts}
-use Rattle.answers.specs.Numbers.{number_of}
+use Rattle.answers.specs.declared.Refusal.{Refusal}
+use Rattle.answers.specs.Numbers.{refusal_number}
 use Rattle.sequence.specs.Distance.{newer_of}
 use Rattle.machine.specs.Stations.{Station}
 use Rattle.machine.specs.Packets.{Outgoing, add_notify, move_notify}
@@ -11,17 +11,11 @@ use Rattle.machine.specs.AccessPoint.{another, this, nowhere, add_notifies, join
 use Rattle.record.specs.declared.AccessPoint.{AccessPoint}
 use Rattle.record.specs.Lens.{get_point, put_point}
 use Rattle.excerpt.specs.Excerpts.{put_back}
-use Rattle.joining.specs.declared.Old.{Old}
-use Rattle.joining.specs.declared.Old.TheVariants.{Nothing, At}
 use Rattle.joining.specs.declared.Origin.{Origin}
 use Rattle.joining.specs.declared.Origin.TheVariants.{Another, This, Nowhere}
 use Rattle.joining.specs.declared.Notice.{Notice}
 use Rattle.joining.specs.declared.Notice.TheVariants.{Silent, Announce, Notify}
 use Rattle.joining.specs.declared.Joined.{Joined}
-
-abbrev pub old_of : Old → Option ℕ
-old_of Nothing = none
-old_of (At o) = some o
 
 abbrev pub origin_from : Origin → machine.Origin
 origin_from (Another o) = another o
@@ -46,9 +40,10 @@ pub record Done : Type 0 where
   pub point : AccessPoint
   pub notice : Notice
 
--- the excerpt put back into the record a
-abbrev pub joined_of : AccessPoint → Joined → Done
-joined_of a j = record { answer = number_of j.answer; point = put_back a j.after; notice = j.notice }
+-- the excerpt put back into the record a; refused, a as it came, and nothing is sent
+abbrev pub joined_of : AccessPoint → Result Joined Refusal → Done
+joined_of a (Ok j) = record { answer = 0; point = put_back a j.after; notice = j.notice }
+joined_of a (Err r) = record { answer = refusal_number r; point = a; notice = Silent }
 
 -- 15, 16 and 17, then the machine's join, its record put back; refused, the record is as it came. What the notice sends is what the
 -- machine's join sends (`notice_sends` in proofs/Laws.antt).

@@ -1,7 +1,7 @@
 // A station joins one access point: the AP's own refusals 15, 16 and 17, its record afterwards, and what it sends.
 #![tactic(auto)]
 
-ghost use Rattle.std.specs.Prelude.{◌≡◌, ◌<◌, ◌≤◌, [], length};
+ghost use Rattle.std.specs.Prelude.{◌≡◌, ◌<◌, ◌≤◌, [], length, IfOk};
 ghost use Rattle.lists.specs.Table.{first_of};
 ghost use Rattle.answers.specs.Numbers.{number_of};
 ghost use Rattle.machine.specs.Associations.{association, held_context};
@@ -10,21 +10,23 @@ ghost use Rattle.record.specs.declared.AccessPoint.{AccessPoint};
 ghost use Rattle.record.specs.Lens.{get_associations, get_point, put_point};
 ghost use Rattle.excerpt.specs.declared.Edit.TheVariants.{Place};
 ghost use Rattle.excerpt.specs.Excerpts.{put_back, Allowed, Seen};
-ghost use Rattle.joining.specs.Join.{old_of, origin_from, moving_from, moves_tests, tests_at, joined_of, join_done};
+ghost use Rattle.joining.specs.Join.{origin_from, moving_from, moves_tests, tests_at, joined_of, join_done};
 
-use answers::Answer;
+use answers::{Answer, Refusal};
 use elements::{Association, Move};
 use excerpt::{Edit, Excerpt};
+use record::Setup;
 
-// The old AP that a join names: none, or any number.
-#[derive(Clone, Copy)]
-pub enum Old {
-    Nothing,
-    At(u16),
+// What a station that joins gives, but for its context: its address, its number, and the old AP that it names or none.
+#[derive(Clone, Copy, Debug, PartialEq, Eq)]
+pub struct Request {
+    pub station: [u8; 6],
+    pub sequence: u16,
+    pub old: Option<u16>,
 }
 
-// Where it is: another AP of the floor, this AP, or none or not on the floor.
-#[derive(Clone, Copy)]
+// Where the old AP is: another AP of the floor, this AP, or none or not on the floor.
+#[derive(Clone, Copy, Debug, PartialEq, Eq)]
 pub enum Origin {
     Another(u8),
     This,
@@ -32,61 +34,52 @@ pub enum Origin {
 }
 
 // What a join sends: nothing, ADD-notify with this identifier to every other AP, or MOVE-notify with it to the old AP.
-#[derive(Clone, Copy)]
+#[derive(Clone, Copy, Debug, PartialEq, Eq)]
 pub enum Notice {
     Silent,
     Announce(u16),
     Notify(u16, u8),
 }
 
+// An accepted join: the excerpt afterwards, and what is sent.
 #[derive(Clone, Copy)]
 pub struct Joined {
-    pub answer: Answer,
     pub after: Excerpt,
     pub notice: Notice,
 }
 
 // Where the old AP of a join at AP `own` is, on a floor of ap_count.
-pub fn origin_of(old: Old, own: u8, ap_count: u8) -> Origin
-    ensures { origin_from result ≡ origin_of ap_count own (old_of old) }
+#[tactic(auto, using(lists::proofs::Tables::tests), unfolding(machine::specs::AccessPoint::origin_of))]
+pub fn origin_of(old: Option<u16>, own: u8, ap_count: u8) -> Origin
+    ensures { origin_from result ≡ origin_of ap_count own old }
 {
-    let Old::At(o) = old else {
-        return Origin::Nowhere;
-    };
-    if o == own as u16 {
-        return Origin::This;
+    match old {
+        Some(o) if o == own as u16 => Origin::This,
+        Some(o) if o < ap_count as u16 => Origin::Another(o as u8),
+        _ => Origin::Nowhere,
     }
-    if o < ap_count as u16 {
-        return Origin::Another(o as u8);
-    }
-    Origin::Nowhere
 }
 
 // Whether a move is needed.
 fn needs_move(o: Origin) -> bool
     ensures { result ≡ moving_from o }
 {
-    match o {
-        Origin::Another(_) => true,
-        Origin::This => false,
-        Origin::Nowhere => false,
-    }
+    matches!(o, Origin::Another(_))
 }
 
 // 17, where a move is needed and 8 are open.
 fn moves_answer(moves: usize, moving: bool) -> Answer
     ensures { number_of result ≡ first_of (moves_tests moves moving) }
 {
-    if moving {
-        if 8 <= moves {
-            return Answer::MovesFull;
-        }
+    if moving && 8 <= moves {
+        return Err(Refusal::MovesFull);
     }
-    Answer::Accepted
+    Ok(())
 }
 
 // The first of 15, 16 and 17 that applies, where the station's association is at place `at` of `count` with the number `held`, and `at` is
 // the count where there is none.
+#[tactic(auto, using(lists::proofs::Tables::tests), unfolding(crate::specs::Join::tests_at))]
 fn answer_at(
     at: usize,
     count: usize,
@@ -99,12 +92,12 @@ fn answer_at(
 {
     if at < count {
         if !sequence::newer(sequence, held) {
-            return Answer::NotNewer;
+            return Err(Refusal::NotNewer);
         }
         return moves_answer(moves, moving);
     }
     if 16 <= count {
-        return Answer::TableFull;
+        return Err(Refusal::TableFull);
     }
     moves_answer(moves, moving)
 }
@@ -117,21 +110,13 @@ fn kept_context(x: Excerpt, station: [u8; 6], sequence: u16) -> Association
         let row = x.row;
         return associations::renumbered(row, sequence);
     }
-    let none = [0u8; 1];
-    associations::new_association(station, sequence, &none[..0])
+    associations::new_association(station, sequence, &[])
 }
 
 // A join from another AP: a move opens with the next identifier.
-fn from_another(
-    x: Excerpt,
-    station: [u8; 6],
-    sequence: u16,
-    old: u8,
-    timeout: u16,
-    resend_limit: u8,
-) -> Excerpt
+fn from_another(x: Excerpt, station: [u8; 6], sequence: u16, old: u8, setup: Setup) -> Excerpt
     requires { x.moves.count < 8 }
-    ensures result_value { (a : AccessPoint) → Seen station a x → put_back a result ≡ put_point a (join_from (another old) 0 timeout resend_limit 0 0 station sequence [] (get_point a)).point }
+    ensures result_value { (a : AccessPoint) → Seen station a x → put_back a result ≡ put_point a (join_from (another old) 0 setup.timeout setup.resend_limit 0 0 station sequence [] (get_point a)).point }
     ensures edit_value { (result.edit ≡ Place) × (result.at ≡ x.at) }
 {
     let row = kept_context(x, station, sequence);
@@ -141,15 +126,13 @@ fn from_another(
         sequence,
         old,
         identifier,
-        ticks_left: timeout,
-        resends_left: resend_limit,
+        ticks_left: setup.timeout,
+        resends_left: setup.resend_limit,
     };
-    let open = x.moves;
-    let moves = moves::push(open, m);
     let mut y = excerpt::with_edit(x, Edit::Place, row);
-    y.moves = moves;
-    y.next_identifier = std::num::wrapping_add_u16(identifier, 1);
-    y.opened = std::num::wrapping_add_u32(x.opened, 1);
+    y.moves = moves::push(x.moves, m);
+    y.next_identifier = identifier.wrapping_add(1);
+    y.opened = x.opened.wrapping_add(1);
     y
 }
 
@@ -170,61 +153,49 @@ fn from_nowhere(x: Excerpt, station: [u8; 6], sequence: u16, context: &[u8]) -> 
 {
     let row = associations::new_association(station, sequence, context);
     let mut y = excerpt::with_edit(x, Edit::Place, row);
-    y.next_identifier = std::num::wrapping_add_u16(x.next_identifier, 1);
+    y.next_identifier = x.next_identifier.wrapping_add(1);
     y
 }
 
-// A join at AP `own` of a floor of ap_count, with the old AP and the context given. Put back into the record that x is of, it is the
-// machine's; refused, x is as it came.
+// A join at AP `own` of a floor. Put back into the record that x is of, it is the machine's; refused, nothing changes.
 pub fn join(
     x: Excerpt,
     own: u8,
-    ap_count: u8,
-    timeout: u16,
-    resend_limit: u8,
-    station: [u8; 6],
-    sequence: u16,
-    old: Old,
+    setup: Setup,
+    request: Request,
     context: &[u8],
-) -> Joined
+) -> Result<Joined, Refusal>
     requires { length context.now ≤ 64 }
-    ensures result_value { (a : AccessPoint) → Seen station a x → joined_of a result ≡ join_done (origin_of ap_count own (old_of old)) ap_count timeout resend_limit own station sequence context.now a }
-    ensures allowed { (a : AccessPoint) → Seen station a x → Allowed result.after.edit result.after.at a.associations.count }
+    ensures result_value { (a : AccessPoint) → Seen request.station a x → joined_of a result ≡ join_done (origin_of setup.ap_count own request.old) setup.ap_count setup.timeout setup.resend_limit own request.station request.sequence context.now a }
+    ensures allowed { (a : AccessPoint) → Seen request.station a x → IfOk result (λ j. Allowed j.after.edit j.after.at a.associations.count) }
 {
-    let origin = origin_of(old, own, ap_count);
-    let m = x.moves;
-    let row = x.row;
-    let answer = answer_at(
+    let Request {
+        station,
+        sequence,
+        old,
+    } = request;
+    let origin = origin_of(old, own, setup.ap_count);
+    answer_at(
         x.at,
         x.count,
-        row.sequence,
+        x.row.sequence,
         sequence,
-        m.count,
+        x.moves.count,
         needs_move(origin),
-    );
-    if answers::number(answer) != 0 {
-        return Joined {
-            answer,
-            after: x,
-            notice: Notice::Silent,
-        };
-    }
+    )?;
     let identifier = x.next_identifier;
     match origin {
-        Origin::Another(o) => Joined {
-            answer,
-            after: from_another(x, station, sequence, o, timeout, resend_limit),
+        Origin::Another(o) => Ok(Joined {
+            after: from_another(x, station, sequence, o, setup),
             notice: Notice::Notify(identifier, o),
-        },
-        Origin::This => Joined {
-            answer,
+        }),
+        Origin::This => Ok(Joined {
             after: from_this(x, station, sequence),
             notice: Notice::Silent,
-        },
-        Origin::Nowhere => Joined {
-            answer,
+        }),
+        Origin::Nowhere => Ok(Joined {
             after: from_nowhere(x, station, sequence, context),
             notice: Notice::Announce(identifier),
-        },
+        }),
     }
 }

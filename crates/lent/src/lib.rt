@@ -2,7 +2,7 @@
 #![tactic(auto)]
 
 ghost use Rattle.std.specs.Prelude.{◌≡◌, min, [], take};
-ghost use Rattle.std.proofs.Math.Option.{none};
+ghost use Rattle.std.specs.Prelude.{None};
 ghost use Rattle.machine.specs.Events as machine;
 ghost use Rattle.events.specs.Event.{event_as};
 ghost use Rattle.network.specs.Events.{event_of};
@@ -12,7 +12,6 @@ ghost use Rattle.lent.specs.Told.{told_of, set_up_over, asked_of};
 
 use events::{Event, Kind};
 use floor_link::Reply;
-use joining::Old;
 use network::Network;
 
 // ANSWER, SENT, GIVENUP, HELD and TABLES, each as document 01's number.
@@ -104,7 +103,7 @@ fn at_most_65(n: usize) -> usize
 
 // An event with no context. What it has no use for is 0.
 fn plainly(kind: Kind, at: u16, station: [u8; 6]) -> Asked
-    ensures { asked_of result ≡ event_as kind at station 0 none [] }
+    ensures { asked_of result ≡ event_as kind at station 0 None [] }
 {
     Asked {
         event: Event {
@@ -112,7 +111,7 @@ fn plainly(kind: Kind, at: u16, station: [u8; 6]) -> Asked
             at,
             station,
             sequence: 0,
-            old: Old::Nothing,
+            old: None,
         },
         len: 0,
         context: [0u8; 65],

@@ -3,7 +3,7 @@
 use Prim.Native.Nat.{ℕ}
 use mathlib.Core.Path.{◌≡◌, refl, sym, ◌∙◌}
 use mathlib.Core.Bool.{Bool, true, false, ◌&&◌, ◌||◌, false≢true}
-use mathlib.Core.Option.{Option, none, some}
+use Rattle.std.specs.Prelude.{Option, None, Some}
 use mathlib.Core.Logic.{◌⊎◌, inl, inr}
 use native.Mathlib.Omega.{arith}
 use Rattle.lists.specs.Options.{case_option}
@@ -45,18 +45,18 @@ pub by_bool : (P : Bool → Type 0) (b : Bool) → (b ≡ true → P true) → (
 by_bool P true f g = f refl
 by_bool P false f g = g refl
 
-pub by_option : {A B : Type 0} (P : B → Type 0) (o : Option A) {x : B} {g : A → B} → (o ≡ none → P x) → ((a : A) → o ≡ some a → P (g a)) → P (case_option o x g)
-by_option P none f g = f refl
-by_option P (some a) f g = g a refl
+pub by_option : {A B : Type 0} (P : B → Type 0) (o : Option A) {x : B} {g : A → B} → (o ≡ None → P x) → ((a : A) → o ≡ Some a → P (g a)) → P (case_option o x g)
+by_option P None f g = f refl
+by_option P (Some a) f g = g a refl
 
-pub is_none : {A : Type 0} (o : Option A) → ((a : A) → o ≡ some a → ⊥) → o ≡ none
-is_none none h = refl
-is_none (some a) h = absurd (h a refl)
+pub is_none : {A : Type 0} (o : Option A) → ((a : A) → o ≡ Some a → ⊥) → o ≡ None
+is_none None h = refl
+is_none (Some a) h = absurd (h a refl)
 
-pub not_some : {A : Type 0} {a : A} {o : Option A} {C : Type 0} → o ≡ none → o ≡ some a → C
+pub not_some : {A : Type 0} {a : A} {o : Option A} {C : Type 0} → o ≡ None → o ≡ Some a → C
 not_some {A} {a} {o} p q = let z : ◌≡◌ {A = ℕ} 0 1 = cc in absurd (omega arith)
 
-pub some_inj : {A : Type 0} {a b : A} {o : Option A} → o ≡ some a → o ≡ some b → a ≡ b
+pub some_inj : {A : Type 0} {a b : A} {o : Option A} → o ≡ Some a → o ≡ Some b → a ≡ b
 some_inj p q = cc
 
 -- one of two, and what follows from each

@@ -3,7 +3,7 @@
 use Prim.Native.Nat.{ℕ, zero, suc, ◌+◌, ◌≤◌, ◌<◌}
 use mathlib.Core.Path.{◌≡◌, refl, ap, subst}
 use mathlib.Core.List.{List, [], ◌∷◌, ◌++◌, map}
-use mathlib.Core.Option.{some}
+use Rattle.std.specs.Prelude.{Some}
 use mathlib.Core.Bool.{Bool, true, ◌&&◌}
 use native.Mathlib.Omega.{arith}
 use native.Mathlib.Nat.{not-suc-le-zero, le_of_suc-le-suc}
@@ -39,7 +39,7 @@ pub all_replicate : {A : Type 0} {P : A → Type 0} (n : ℕ) (x : A) → P x �
 all_replicate zero x h = nil
 all_replicate (suc n) x h = cons h (all_replicate n x h)
 
-pub all_nth : {A : Type 0} {P : A → Type 0} (k : ℕ) (xs : List A) (x : A) → nth k xs ≡ some x → All P xs → P x
+pub all_nth : {A : Type 0} {P : A → Type 0} (k : ℕ) (xs : List A) (x : A) → nth k xs ≡ Some x → All P xs → P x
 unfolding nth
 all_nth k [] x e nil = not_some refl e
 all_nth {P = P} zero (y ∷ ys) x e (cons h hs) = subst P (some_inj refl e) h

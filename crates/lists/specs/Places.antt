@@ -1,11 +1,11 @@
 -- An element of a list by its place, counted from 0; and a test, or a fact, of every element.
 use Rattle.std.specs.Prelude.{ℕ, zero, suc, List, [], ◌∷◌, Bool, true, ◌&&◌}
-use Rattle.std.proofs.Math.Option.{Option, none, some}
+use Rattle.std.specs.Prelude.{Option, None, Some}
 
 -- the element at place k
 unfoldable pub nth : {A : Type 0} → ℕ → List A → Option A
-nth k [] = none
-nth zero (x ∷ xs) = some x
+nth k [] = None
+nth zero (x ∷ xs) = Some x
 nth (suc k) (x ∷ xs) = nth k xs
 
 -- the list with the element at place k taken out: the later ones move up

@@ -4,7 +4,7 @@ use Prim.Native.Nat.{ℕ}
 use mathlib.Core.Path.{◌≡◌, refl}
 use mathlib.Core.Bool.{true, false}
 use mathlib.Core.List.{List, [], ◌∷◌, ◌++◌, map}
-use mathlib.Core.Option.{Option, none, some}
+use Rattle.std.specs.Prelude.{Option, None, Some}
 use lib.ListN.{length, take, replicate}
 use Rattle.lists.specs.Places.{nth, without, every}
 use Rattle.sequence.specs.Distance.{distance, newer_of}
@@ -58,8 +58,8 @@ refused k = k ∷ 0 ∷ 0 ∷ 0 ∷ 0 ∷ []
 -- document 01's script, from "2 2 1"
 abbrev script : List Event
 script =
-    join 0 s1 10 none (0xab ∷ [])
-    ∷ join 1 s1 11 (some 0) []
+    join 0 s1 10 None (0xab ∷ [])
+    ∷ join 1 s1 11 (Some 0) []
     ∷ lose 1
     ∷ tick 1
     ∷ tick 1
@@ -103,7 +103,7 @@ packet_in_flight from to k = record { from = from; to = to; len = k; octets = p8
 
 -- A list whose joins are each newer than the one before, and not than all earlier ones: 4095 is not newer than 1.
 abbrev pub around : List Event
-around = join 0 s1 1 none [] ∷ join 0 s1 2048 (some 0) [] ∷ join 1 s1 4095 (some 0) [] ∷ deliver 0 ∷ []
+around = join 0 s1 1 None [] ∷ join 0 s1 2048 (Some 0) [] ∷ join 1 s1 4095 (Some 0) [] ∷ deliver 0 ∷ []
 
 pub record Examples : Type 0 where
   -- document 01's script prints what document 01 says
@@ -125,72 +125,72 @@ pub record Examples : Type 0 where
   script_in_flight : length (run (begin 2 2 1) script).network.in_flight ≡ 1
   -- "comparing sequence numbers without wrap": 0 is newer than 4095, for a join and for a notice
   wraps_join :
-      printed (begin 2 1 0) (join 0 s1 4095 (some 0) [] ∷ join 0 s1 0 (some 0) [] ∷ [])
+      printed (begin 2 1 0) (join 0 s1 4095 (Some 0) [] ∷ join 0 s1 0 (Some 0) [] ∷ [])
       ≡ sent 0 ∷ sent 0 ∷ []
   wraps_notify :
-      printed (begin 2 1 0) (join 0 s1 4095 (some 0) [] ∷ join 1 s1 0 (some 0) [] ∷ deliver 0 ∷ who s1 ∷ [])
+      printed (begin 2 1 0) (join 0 s1 4095 (Some 0) [] ∷ join 1 s1 0 (Some 0) [] ∷ deliver 0 ∷ who s1 ∷ [])
       ≡ sent 0 ∷ sent 1 ∷ sent 1 ∷ held 2 1 ∷ []
   -- the same for an ADD-notify
   wraps_add :
-      printed (begin 2 1 0) (join 1 s1 4095 (some 1) [] ∷ join 0 s1 0 none [] ∷ deliver 0 ∷ who s1 ∷ [])
+      printed (begin 2 1 0) (join 1 s1 4095 (Some 1) [] ∷ join 0 s1 0 None [] ∷ deliver 0 ∷ who s1 ∷ [])
       ≡ sent 0 ∷ sent 1 ∷ sent 0 ∷ held 1 1 ∷ []
   -- "dropping an open move when its row goes": the station leaves, and the move is sent again and then given up
   row_goes :
-      printed (begin 2 1 1) (join 1 s1 11 (some 0) [] ∷ leave 1 s1 ∷ tick 1 ∷ tick 1 ∷ tick 1 ∷ [])
+      printed (begin 2 1 1) (join 1 s1 11 (Some 0) [] ∷ leave 1 s1 ∷ tick 1 ∷ tick 1 ∷ tick 1 ∷ [])
       ≡ sent 1 ∷ sent 0 ∷ sent 1 ∷ lapse 1 ∷ sent 0 ∷ []
   -- "removing on STALE_MOVE a row that has since become newer": it stays, and the station stands in two tables
   stale_since_newer :
-      printed (begin 2 3 1) (join 1 s1 8 (some 1) [] ∷ join 0 s1 5 (some 1) [] ∷ deliver 0 ∷ join 0 s1 9 (some 0) [] ∷ deliver 0 ∷ who s1 ∷ [])
+      printed (begin 2 3 1) (join 1 s1 8 (Some 1) [] ∷ join 0 s1 5 (Some 1) [] ∷ deliver 0 ∷ join 0 s1 9 (Some 0) [] ∷ deliver 0 ∷ who s1 ∷ [])
       ≡ sent 0 ∷ sent 1 ∷ sent 1 ∷ sent 0 ∷ sent 0 ∷ held 3 2 ∷ []
   -- a row numbered exactly so goes
   stale_exactly :
-      printed (begin 2 3 1) (join 1 s1 8 (some 1) [] ∷ join 0 s1 5 (some 1) [] ∷ deliver 0 ∷ deliver 0 ∷ who s1 ∷ [])
+      printed (begin 2 3 1) (join 1 s1 8 (Some 1) [] ∷ join 0 s1 5 (Some 1) [] ∷ deliver 0 ∷ deliver 0 ∷ who s1 ∷ [])
       ≡ sent 0 ∷ sent 1 ∷ sent 1 ∷ sent 0 ∷ held 2 1 ∷ []
   -- "starting a resend with a new identifier": the notice and the one that is sent again have the same bytes
-  same_bytes : map octets_in (run (begin 2 1 1) (join 1 s1 11 (some 0) [] ∷ tick 1 ∷ [])).network.in_flight ≡ p8 ∷ p8 ∷ []
+  same_bytes : map octets_in (run (begin 2 1 1) (join 1 s1 11 (Some 0) [] ∷ tick 1 ∷ [])).network.in_flight ≡ p8 ∷ p8 ∷ []
   -- two ticks of T before a resend, and R resends before a move is given up: the row stays
   gives_up :
-      printed (begin 2 2 1) (join 1 s1 11 (some 0) [] ∷ tick 1 ∷ tick 1 ∷ tick 1 ∷ tick 1 ∷ who s1 ∷ [])
+      printed (begin 2 2 1) (join 1 s1 11 (Some 0) [] ∷ tick 1 ∷ tick 1 ∷ tick 1 ∷ tick 1 ∷ who s1 ∷ [])
       ≡ sent 1 ∷ sent 0 ∷ sent 1 ∷ sent 0 ∷ lapse 1 ∷ held 2 1 ∷ []
   -- an answer closes the earliest opened move that agrees: the later one is still open
   earliest_closes :
-      printed (begin 2 1 0) (join 1 s1 11 (some 0) [] ∷ join 1 s2 11 (some 0) [] ∷ deliver 0 ∷ deliver 1 ∷ tick 1 ∷ [])
+      printed (begin 2 1 0) (join 1 s1 11 (Some 0) [] ∷ join 1 s2 11 (Some 0) [] ∷ deliver 0 ∷ deliver 1 ∷ tick 1 ∷ [])
       ≡ sent 1 ∷ sent 1 ∷ sent 1 ∷ sent 0 ∷ lapse 1 ∷ []
   -- and no other: the answer for s2 leaves the move of s1 open, though that was opened earlier
   agreeing_closes :
-      map (λ (m : Open). m.move.station) (access_point_at (run (begin 2 1 0) (join 1 s1 11 (some 0) [] ∷ join 1 s2 11 (some 0) [] ∷ deliver 1 ∷ deliver 1 ∷ [])).network 1).moves
+      map (λ (m : Open). m.move.station) (access_point_at (run (begin 2 1 0) (join 1 s1 11 (Some 0) [] ∷ join 1 s2 11 (Some 0) [] ∷ deliver 1 ∷ deliver 1 ∷ [])).network 1).moves
       ≡ s1 ∷ []
   -- what repeat hands over stays in flight, and its answer is the receiver's
   repeats :
-      printed (begin 2 5 1) (join 0 s1 5 (some 1) [] ∷ repeat 0 ∷ repeat 0 ∷ deliver 2 ∷ deliver 1 ∷ lose 0 ∷ lose 0 ∷ [])
+      printed (begin 2 5 1) (join 0 s1 5 (Some 1) [] ∷ repeat 0 ∷ repeat 0 ∷ deliver 2 ∷ deliver 1 ∷ lose 0 ∷ lose 0 ∷ [])
       ≡ sent 1 ∷ sent 1 ∷ sent 1 ∷ sent 0 ∷ sent 0 ∷ sent 0 ∷ refused 12 ∷ []
   -- "A packet sent when the air has 64 is lost, and still counts as sent": of 70 packets 64 are in flight
-  full_air : length (run (begin 8 2 1) (joining none ten)).network.in_flight ≡ 64
-  full_air_sent : map (λ l. take 2 l) (printed (begin 8 2 1) (joining none ten)) ≡ replicate 10 (0 ∷ 7 ∷ [])
+  full_air : length (run (begin 8 2 1) (joining None ten)).network.in_flight ≡ 64
+  full_air_sent : map (λ l. take 2 l) (printed (begin 8 2 1) (joining None ten)) ≡ replicate 10 (0 ∷ 7 ∷ [])
   -- rows 16 and 17, moves 8 and 9
-  sixteen_rows : answers (printed (begin 1 2 1) (joining none (ten ++ (11 ∷ 12 ∷ 13 ∷ 14 ∷ 15 ∷ 16 ∷ 17 ∷ [])))) ≡ replicate 16 (0 ∷ []) ++ ((16 ∷ []) ∷ [])
-  eight_moves : answers (printed (begin 2 2 1) (joining (some 1) (1 ∷ 2 ∷ 3 ∷ 4 ∷ 5 ∷ 6 ∷ 7 ∷ 8 ∷ 9 ∷ []))) ≡ replicate 8 (0 ∷ []) ++ ((17 ∷ []) ∷ [])
+  sixteen_rows : answers (printed (begin 1 2 1) (joining None (ten ++ (11 ∷ 12 ∷ 13 ∷ 14 ∷ 15 ∷ 16 ∷ 17 ∷ [])))) ≡ replicate 16 (0 ∷ []) ++ ((16 ∷ []) ∷ [])
+  eight_moves : answers (printed (begin 2 2 1) (joining (Some 1) (1 ∷ 2 ∷ 3 ∷ 4 ∷ 5 ∷ 6 ∷ 7 ∷ 8 ∷ 9 ∷ []))) ≡ replicate 8 (0 ∷ []) ++ ((17 ∷ []) ∷ [])
   -- "it is used even where there is no other AP": a plain join on a floor of one sends nothing and uses an identifier
   alone :
-      printed (begin 1 2 1) (join 0 s1 5 none [] ∷ []) ≡ sent 0 ∷ []
-  alone_identifier : (access_point_at (run (begin 1 2 1) (join 0 s1 5 none [] ∷ [])).network 0).next_identifier ≡ 1
+      printed (begin 1 2 1) (join 0 s1 5 None [] ∷ []) ≡ sent 0 ∷ []
+  alone_identifier : (access_point_at (run (begin 1 2 1) (join 0 s1 5 None [] ∷ [])).network 0).next_identifier ≡ 1
   -- "from 65535 to 0"
   last_identifier : (use_identifier (record { associations = []; moves = []; next_identifier = 65535; counts = new_point.counts })).next_identifier ≡ 0
   -- "If old is this AP: context likewise, nothing sent": kept where a row was there, else empty; no identifier is used
   context_kept :
-      context_octets s1 (access_point_at (run (begin 2 2 1) (join 0 s1 5 none (0xab ∷ []) ∷ join 0 s1 6 (some 0) (0xcd ∷ []) ∷ [])).network 0).associations ≡ 0xab ∷ []
-  context_dropped : context_octets s1 (access_point_at (run (begin 2 2 1) (join 0 s1 6 (some 0) (0xcd ∷ []) ∷ [])).network 0).associations ≡ []
+      context_octets s1 (access_point_at (run (begin 2 2 1) (join 0 s1 5 None (0xab ∷ []) ∷ join 0 s1 6 (Some 0) (0xcd ∷ []) ∷ [])).network 0).associations ≡ 0xab ∷ []
+  context_dropped : context_octets s1 (access_point_at (run (begin 2 2 1) (join 0 s1 6 (Some 0) (0xcd ∷ []) ∷ [])).network 0).associations ≡ []
   -- the refusals of a join in their order, one cause less each time
   join_refusals :
       answers
       (printed (begin 2 2 1)
-      (join 0 s1 5 none []
-      ∷ join 2 (3 ∷ 0 ∷ 0 ∷ 0 ∷ 0 ∷ 1 ∷ []) 4096 none (replicate 65 0)
-      ∷ join 0 (3 ∷ 0 ∷ 0 ∷ 0 ∷ 0 ∷ 1 ∷ []) 4096 none (replicate 65 0)
-      ∷ join 0 s1 4096 none (replicate 65 0)
-      ∷ join 0 s1 5 none (replicate 65 0)
-      ∷ join 0 s1 5 none []
-      ∷ join 0 s1 6 none (replicate 64 0)
+      (join 0 s1 5 None []
+      ∷ join 2 (3 ∷ 0 ∷ 0 ∷ 0 ∷ 0 ∷ 1 ∷ []) 4096 None (replicate 65 0)
+      ∷ join 0 (3 ∷ 0 ∷ 0 ∷ 0 ∷ 0 ∷ 1 ∷ []) 4096 None (replicate 65 0)
+      ∷ join 0 s1 4096 None (replicate 65 0)
+      ∷ join 0 s1 5 None (replicate 65 0)
+      ∷ join 0 s1 5 None []
+      ∷ join 0 s1 6 None (replicate 64 0)
       ∷ []))
       ≡ (0 ∷ []) ∷ (11 ∷ []) ∷ (13 ∷ []) ∷ (7 ∷ []) ∷ (9 ∷ []) ∷ (15 ∷ []) ∷ (0 ∷ []) ∷ []
   other_refusals :
@@ -219,10 +219,10 @@ pub record Examples : Type 0 where
   outside_record : (outside (lone 2) 2 [] []).answer ≡ 14
   -- "At 2048 apart neither is newer": an ADD-notify removes nothing, and a MOVE-notify is answered STALE_MOVE
   apart_add :
-      printed (begin 2 1 0) (join 1 s1 0 (some 1) [] ∷ join 0 s1 2048 none [] ∷ deliver 0 ∷ who s1 ∷ [])
+      printed (begin 2 1 0) (join 1 s1 0 (Some 1) [] ∷ join 0 s1 2048 None [] ∷ deliver 0 ∷ who s1 ∷ [])
       ≡ sent 0 ∷ sent 1 ∷ sent 0 ∷ held 3 2 ∷ []
   apart_notify :
-      printed (begin 2 1 0) (join 0 s1 0 (some 0) [] ∷ join 1 s1 2048 (some 0) [] ∷ deliver 0 ∷ deliver 0 ∷ who s1 ∷ [])
+      printed (begin 2 1 0) (join 0 s1 0 (Some 0) [] ∷ join 1 s1 2048 (Some 0) [] ∷ deliver 0 ∷ deliver 0 ∷ who s1 ∷ [])
       ≡ sent 0 ∷ sent 1 ∷ sent 1 ∷ sent 0 ∷ held 1 1 ∷ []
   -- the words of demand 3, after two events of document 01's script and after all of it: the move is named 1, its notice is sent
   -- twice, it is open and then answered, and the station stands in both tables and then in that of AP 1 alone
@@ -234,18 +234,18 @@ pub record Examples : Type 0 where
       (sends_of 1 w.log ≡ 2) × (is_open s1 w.log ≡ false) × (was_given_up s1 w.log ≡ false) × (stands s1 w 0 ≡ false) × (stands s1 w 1 ≡ true)
   -- a move that a tick gave up is not open, and was given up
   words_given_up :
-      let w = run (begin 2 1 0) (join 1 s1 11 (some 0) [] ∷ tick 1 ∷ tick 1 ∷ []) in
+      let w = run (begin 2 1 0) (join 1 s1 11 (Some 0) [] ∷ tick 1 ∷ tick 1 ∷ []) in
       (sends_of 0 w.log ≡ 1) × (is_open s1 w.log ≡ false) × (was_given_up s1 w.log ≡ true) × (was_given_up s2 w.log ≡ false)
   -- a leave with no row counts as having left, until the next accepted join
   words_left :
-      (left s1 (answers_of (run (begin 2 1 0) (join 0 s1 1 none [] ∷ leave 1 s1 ∷ [])).log) 1 ≡ true)
-      × (left s1 (answers_of (run (begin 2 1 0) (join 0 s1 1 none [] ∷ leave 1 s1 ∷ join 1 s1 2 (some 0) [] ∷ [])).log) 1 ≡ false)
+      (left s1 (answers_of (run (begin 2 1 0) (join 0 s1 1 None [] ∷ leave 1 s1 ∷ [])).log) 1 ≡ true)
+      × (left s1 (answers_of (run (begin 2 1 0) (join 0 s1 1 None [] ∷ leave 1 s1 ∷ join 1 s1 2 (Some 0) [] ∷ [])).log) 1 ≡ false)
   -- the list around 4096: its joins, and where the station stands after it
   pub around_joins :
       joins_of s1 (answers_of (run (begin 2 1 0) around).log)
-      ≡ record { at = 1; sequence = 4095; old = some 0; place = 2 }
-      ∷ record { at = 0; sequence = 2048; old = some 0; place = 1 }
-      ∷ record { at = 0; sequence = 1; old = none; place = 0 }
+      ≡ record { at = 1; sequence = 4095; old = Some 0; place = 2 }
+      ∷ record { at = 0; sequence = 2048; old = Some 0; place = 1 }
+      ∷ record { at = 0; sequence = 1; old = None; place = 0 }
       ∷ []
   pub around_left : left s1 (answers_of (run (begin 2 1 0) around).log) 1 ≡ false
   pub around_stands : stands s1 (run (begin 2 1 0) around) 1 ≡ false

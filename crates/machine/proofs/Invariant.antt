@@ -6,7 +6,7 @@ use mathlib.Core.Bool.{Bool, true, false, cond, ◌||◌}
 use mathlib.Core.Path.{◌≡◌, refl, sym, ap, subst, ◌∙◌}
 use mathlib.Core.List.{List, [], ◌∷◌, ◌++◌}
 use mathlib.Core.Logic.{◌⊎◌, inl, inr, ◌≢◌}
-use mathlib.Core.Option.{Option, none, some}
+use Rattle.std.specs.Prelude.{Option, None, Some}
 use lib.Dec.{eqb, ltb}
 use lib.ListN.{length}
 use borrow.Author.Tests.{eqb-true, eqb-false}
@@ -43,8 +43,8 @@ LastAt n b (j ∷ js) = (n ≡ j.sequence) × (b ≡ j.at)
 
 -- the number of the latest join at AP b
 unfoldable pub latest : ℕ → List Join → Option ℕ
-latest b [] = none
-latest b (j ∷ js) = cond (eqb b j.at) (some j.sequence) (latest b js)
+latest b [] = None
+latest b (j ∷ js) = cond (eqb b j.at) (Some j.sequence) (latest b js)
 
 -- an open move of the station for n towards AP o, named p
 pub record Carries (s : Station) (n o p : ℕ) (m : Open) : Type 0 where
@@ -66,7 +66,7 @@ row_at s f b = sequence_of s (access_point_at f b).associations
 
 -- the station's association at AP b, if there is one, is no older than n
 abbrev pub Settled : View → ℕ → ℕ → Type 0
-Settled R b n = (m : ℕ) → R b ≡ some m → newer_of n m ≡ false
+Settled R b n = (m : ℕ) → R b ≡ Some m → newer_of n m ≡ false
 
 -- which moves were given up, by old AP and name
 abbrev pub GivenUp : Type 0
@@ -88,7 +88,7 @@ OutgoingOk s J R from x = PacketOk s J R from x.to x.packet
 
 -- of a packet in flight: what its octets say
 abbrev pub FrameOk : Station → List Join → View → InFlight → Type 0
-FrameOk s J R w = (p : Packet) → packet_in (octets_in w) ≡ some p → PacketOk s J R w.from w.to p
+FrameOk s J R w = (p : Packet) → packet_in (octets_in w) ≡ Some p → PacketOk s J R w.from w.to p
 
 -- a move of the station
 pub record MoveOk (s : Station) (J : List Join) (m : Open) : Type 0 where
@@ -100,23 +100,23 @@ abbrev pub HandedTo : Station → GivenUp → View → List Open → ℕ → ℕ
 HandedTo s L R ms n o p = Holds s n o p ms ⊎ ((L o p ≡ true) ⊎ Settled R o n)
 
 abbrev pub Handed : Station → GivenUp → Network → Join → Type 0
-Handed s L f j = (o : ℕ) → j.old ≡ some o → HandedTo s L (row_at s f) (access_point_at f j.at).moves j.sequence o j.place
+Handed s L f j = (o : ℕ) → j.old ≡ Some o → HandedTo s L (row_at s f) (access_point_at f j.at).moves j.sequence o j.place
 
 pub record Inv (s : Station) (J : List Join) (G : ℕ → Bool) (L : GivenUp) (f : Network) : Type 0 where
-  pub rows : (b m : ℕ) → row_at s f b ≡ some m → latest b J ≡ some m
-  pub stays : (n b : ℕ) → LastAt n b J → G b ≡ false → row_at s f b ≡ some n
-  pub gone : (n b : ℕ) → LastAt n b J → G b ≡ true → row_at s f b ≡ none
+  pub rows : (b m : ℕ) → row_at s f b ≡ Some m → latest b J ≡ Some m
+  pub stays : (n b : ℕ) → LastAt n b J → G b ≡ false → row_at s f b ≡ Some n
+  pub gone : (n b : ℕ) → LastAt n b J → G b ≡ true → row_at s f b ≡ None
   pub air : All (FrameOk s J (row_at s f)) f.in_flight
   pub moves : (b : ℕ) → All (MoveOk s J) (access_point_at f b).moves
   pub handed : All (Handed s L f) J
 
 -- the history
 
-pub latest_known : (b m : ℕ) (J : List Join) → latest b J ≡ some m → Known m J
+pub latest_known : (b m : ℕ) (J : List Join) → latest b J ≡ Some m → Known m J
 unfolding latest
 latest_known b m [] e = not_some refl e
 latest_known b m (j ∷ js) e =
-    by_cond (λ o. o ≡ some m → Known m (j ∷ js)) (eqb b j.at) (λ q x. inl (some_inj x refl)) (λ q x. inr (latest_known b m js x)) e
+    by_cond (λ o. o ≡ Some m → Known m (j ∷ js)) (eqb b j.at) (λ q x. inl (some_inj x refl)) (λ q x. inr (latest_known b m js x)) e
 
 pub known_older : (n k : ℕ) (J : List Join) → NewerThanAll n J → Known k J → newer_of n k ≡ true
 known_older n k [] h x'' = elim x'' [ ]
@@ -132,21 +132,21 @@ last_newest n k (j ∷ js) h e (inr r) = rw e (newer_asym j.sequence k (known_ol
 fresh_number : (n k : ℕ) (J : List Join) → NewerThanAll n J → Known k J → k ≢ n
 fresh_number n k J h r e = not_both (rw e at (known_older n k J h r)) (newer_irrefl n)
 
-latest_last : (n b : ℕ) (J : List Join) → LastAt n b J → latest b J ≡ some n
+latest_last : (n b : ℕ) (J : List Join) → LastAt n b J → latest b J ≡ Some n
 unfolding latest
 latest_last n b [] h = elim h [ ]
-latest_last n b (j ∷ js) h = by_cond (λ o. o ≡ some n) (eqb b j.at) (λ e. rw h.0) (λ e. absurd (eqb-false b j.at e h.1))
+latest_last n b (j ∷ js) h = by_cond (λ o. o ≡ Some n) (eqb b j.at) (λ e. rw h.0) (λ e. absurd (eqb-false b j.at e h.1))
 
-pub last_row : (n b m : ℕ) (J : List Join) → LastAt n b J → latest b J ≡ some m → Last m J
+pub last_row : (n b m : ℕ) (J : List Join) → LastAt n b J → latest b J ≡ Some m → Last m J
 last_row n b m [] h e = elim h [ ]
 last_row n b m (j ∷ js) h e = some_inj e (latest_last n b (j ∷ js) h) ∙ h.0
 
 -- a number that is not newer than that of the latest join at b, and did not come from the latest join for b, has been passed
-pub stale_passed : (n m b : ℕ) (J : List Join) → InOrder J → latest b J ≡ some m → newer_of n m ≡ false → ¬ LastAt n b J → ¬ Last n J
+pub stale_passed : (n m b : ℕ) (J : List Join) → InOrder J → latest b J ≡ Some m → newer_of n m ≡ false → ¬ LastAt n b J → ¬ Last n J
 unfolding latest
 stale_passed n m b [] h e o k q = elim q [ ]
 stale_passed n m b (j ∷ js) h e o k q =
-    by_cond (λ (x : Option ℕ). x ≡ some m → ⊥) (eqb b j.at) (λ y z. k (q, eqb-true b j.at y))
+    by_cond (λ (x : Option ℕ). x ≡ Some m → ⊥) (eqb b j.at) (λ y z. k (q, eqb-true b j.at y))
     (λ y z. not_both (rw (← q) at (known_older j.sequence m js h.0 (latest_known b m js z))) o) e
 
 all_known : (J : List Join) → All (λ (j : Join). Known j.sequence J) J
@@ -204,7 +204,7 @@ handed_map s L R W ms ms' n o p f g h = settle (keep h)
 -- An access point's record anew, where the station's association is as before or goes, each of its moves is as before, or was given
 -- up, or is settled; and the association of the latest join is as before.
 pub record Shrinks (s : Station) (J : List Join) (L : GivenUp) (f : Network) (b : ℕ) (a : AccessPoint) : Type 0 where
-  pub row : (m : ℕ) → sequence_of s a.associations ≡ some m → row_at s f b ≡ some m
+  pub row : (m : ℕ) → sequence_of s a.associations ≡ Some m → row_at s f b ≡ Some m
   pub moves : All (MoveOk s J) a.moves
   pub held : (n o p : ℕ) → Holds s n o p (access_point_at f b).moves → HandedTo s L (row_at s f) a.moves n o p
 
@@ -223,10 +223,10 @@ module _ {s : Station} {J : List Join} {G : ℕ → Bool} {L : GivenUp} {f : Net
       }
 
   module _ (b : ℕ) (a : AccessPoint) (h : Shrinks s J L f b a) where
-    shrunk : (c m : ℕ) → row_at s (set_point b a f) c ≡ some m → row_at s f c ≡ some m
+    shrunk : (c m : ℕ) → row_at s (set_point b a f) c ≡ Some m → row_at s f c ≡ Some m
     shrunk c m =
-        point_set (λ (x : AccessPoint). sequence_of s x.associations ≡ some m → row_at s f c ≡ some m) f b c a (λ e. e)
-        (λ q e. subst (λ (d : ℕ). row_at s f d ≡ some m) q (h.row m e))
+        point_set (λ (x : AccessPoint). sequence_of s x.associations ≡ Some m → row_at s f c ≡ Some m) f b c a (λ e. e)
+        (λ q e. subst (λ (d : ℕ). row_at s f d ≡ Some m) q (h.row m e))
 
     grows : Grows J J (row_at s f) (row_at s (set_point b a f))
     grows =
@@ -247,8 +247,8 @@ module _ {s : Station} {J : List Join} {G : ℕ → Bool} {L : GivenUp} {f : Net
     -- and where the station left since (G')
     pub inv_change :
         (G' : ℕ → Bool)
-        → ((n c : ℕ) → LastAt n c J → G' c ≡ false → row_at s (set_point b a f) c ≡ some n)
-        → ((n c : ℕ) → LastAt n c J → G' c ≡ true → row_at s (set_point b a f) c ≡ none)
+        → ((n c : ℕ) → LastAt n c J → G' c ≡ false → row_at s (set_point b a f) c ≡ Some n)
+        → ((n c : ℕ) → LastAt n c J → G' c ≡ true → row_at s (set_point b a f) c ≡ None)
         → Inv s J G' L (set_point b a f)
     unfolding set_point
     inv_change G' stays gone =
@@ -277,15 +277,15 @@ module _ {s : Station} {J : List Join} {G : ℕ → Bool} {L : GivenUp} {f : Net
       (a : AccessPoint)
       (order : InOrder (j ∷ J))
       (fits : j.at < length f.points)
-      (row : sequence_of s a.associations ≡ some j.sequence)
+      (row : sequence_of s a.associations ≡ Some j.sequence)
       (held : (n o p : ℕ) → Holds s n o p (access_point_at f j.at).moves → Holds s n o p a.moves)
     where
-      pub at_join : row_at s (set_point j.at a f) j.at ≡ some j.sequence
+      pub at_join : row_at s (set_point j.at a f) j.at ≡ Some j.sequence
       at_join = rw (point_set_same f j.at a fits) row
 
-      changed : (c m : ℕ) → row_at s (set_point j.at a f) c ≡ some m → (row_at s f c ≡ some m) ⊎ (m ≡ j.sequence)
+      changed : (c m : ℕ) → row_at s (set_point j.at a f) c ≡ Some m → (row_at s f c ≡ Some m) ⊎ (m ≡ j.sequence)
       changed c m =
-          point_set (λ (x : AccessPoint). sequence_of s x.associations ≡ some m → (row_at s f c ≡ some m) ⊎ (m ≡ j.sequence)) f j.at c a inl (λ q e. inr cc)
+          point_set (λ (x : AccessPoint). sequence_of s x.associations ≡ Some m → (row_at s f c ≡ Some m) ⊎ (m ≡ j.sequence)) f j.at c a inl (λ q e. inr cc)
 
       unchanged : (c : ℕ) → c ≢ j.at → row_at s (set_point j.at a f) c ≡ row_at s f c
       unchanged c h = point_set (λ (x : AccessPoint). sequence_of s x.associations ≡ row_at s f c) f j.at c a refl (λ q. absurd (h (sym q)))
@@ -293,7 +293,7 @@ module _ {s : Station} {J : List Join} {G : ℕ → Bool} {L : GivenUp} {f : Net
       joined_settled : (c n : ℕ) → Known n J → Settled (row_at s f) c n → Settled (row_at s (set_point j.at a f)) c n
       joined_settled c n k h m e = go (changed c m e)
         where
-          go : (row_at s f c ≡ some m) ⊎ (m ≡ j.sequence) → newer_of n m ≡ false
+          go : (row_at s f c ≡ Some m) ⊎ (m ≡ j.sequence) → newer_of n m ≡ false
           go (inl q) = h m q
           go (inr q) = rw q (newer_asym j.sequence n (known_older j.sequence n J order.0 k))
 
@@ -306,10 +306,10 @@ module _ {s : Station} {J : List Join} {G : ℕ → Bool} {L : GivenUp} {f : Net
             elsewhere = λ n c k h e. fresh_number j.sequence n J order.0 k e.0;
           }
 
-      joined_rows : (c m : ℕ) → row_at s (set_point j.at a f) c ≡ some m → latest c (j ∷ J) ≡ some m
+      joined_rows : (c m : ℕ) → row_at s (set_point j.at a f) c ≡ Some m → latest c (j ∷ J) ≡ Some m
       unfolding latest
       joined_rows c m e =
-          by_cond (λ o. o ≡ some m) (eqb c j.at)
+          by_cond (λ o. o ≡ Some m) (eqb c j.at)
           (λ q. let x : c ≡ j.at = eqb-true c j.at q in cc at_join)
           (λ q. v.rows c m (sym (unchanged c (eqb-false c j.at q)) ∙ e))
 

@@ -5,7 +5,7 @@ use Prim.Native.Nat.{ℕ, zero, suc, ◌<◌, ◌≤◌, ◌+◌, ◌%◌}
 use mathlib.Core.Bool.{true}
 use mathlib.Core.Path.{◌≡◌, refl, sym, ap, subst}
 use mathlib.Core.List.{List, [], ◌∷◌}
-use mathlib.Core.Option.{none, some}
+use Rattle.std.specs.Prelude.{None, Some}
 use lib.ListN.{length, take, drop}
 use lib.Seq.{take-append_seam}
 use native.Mathlib.Omega.{arith}
@@ -72,7 +72,7 @@ pub record InFlightIn (C : Type 0) (n : ℕ) (w : InFlight) : Type 0 where
 -- one row for a station
 abbrev pub Distinct : List Association → Type 0
 Distinct [] = Unit {0}
-Distinct (r ∷ rs) = (sequence_of r.station rs ≡ none) × Distinct rs
+Distinct (r ∷ rs) = (sequence_of r.station rs ≡ None) × Distinct rs
 
 -- opened = answered + given up + open, modulo 4294967296
 abbrev pub Balanced : AccessPoint → Type 0
@@ -163,7 +163,7 @@ packet_in_lem s o e =
       });
     }
 
-pub opened_in : {C : Type 0} {n : ℕ} (w : InFlight) (p : Packet) → InFlightIn C n w → packet_in (octets_in w) ≡ some p → PacketIn p
+pub opened_in : {C : Type 0} {n : ℕ} (w : InFlight) (p : Packet) → InFlightIn C n w → packet_in (octets_in w) ≡ Some p → PacketIn p
 unfolding packet_in readable
 opened_in w p h e =
     subst PacketIn (some_inj refl (rw h.reads at e))

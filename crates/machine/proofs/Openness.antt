@@ -5,7 +5,7 @@ use mathlib.Core.Bool.{Bool, true, false, cond, ◌&&◌, ◌||◌}
 use mathlib.Core.Path.{◌≡◌, refl, sym, ap, subst}
 use mathlib.Core.List.{List, [], ◌∷◌}
 use mathlib.Core.Logic.{inl, inr}
-use mathlib.Core.Option.{some}
+use Rattle.std.specs.Prelude.{Some}
 use lib.Dec.{eqb}
 use lib.ListN.{length, get_or, set}
 use native.Mathlib.Omega.{arith}
@@ -47,11 +47,11 @@ total_set_same g [] b a l = absurd (omega arith)
 total_set_same g (x ∷ xs) zero a l = omega arith
 total_set_same g (x ∷ xs) (suc b) a l = omega (arith, total_set_same g xs b a (omega arith))
 
-total_closed : (g : Open → ℕ) (from : ℕ) (p : Packet) (ms : List Open) (m : Open) → earliest from p ms ≡ some m → total g (close from p ms) + g m ≡ total g ms
+total_closed : (g : Open → ℕ) (from : ℕ) (p : Packet) (ms : List Open) (m : Open) → earliest from p ms ≡ Some m → total g (close from p ms) + g m ≡ total g ms
 unfolding total close earliest
 total_closed g from p [] m e = not_some refl e
 total_closed g from p (x ∷ ms) m e =
-    by_bool (λ (b : Bool). cond b (some x) (earliest from p ms) ≡ some m → total g (cond b ms (x ∷ close from p ms)) + g m ≡ g x + total g ms) (agrees from p x.move)
+    by_bool (λ (b : Bool). cond b (Some x) (earliest from p ms) ≡ Some m → total g (cond b ms (x ∷ close from p ms)) + g m ≡ g x + total g ms) (agrees from p x.move)
     (λ q z. omega (arith, ap g (some_inj refl z))) (λ q z. omega (arith, total_closed g from p ms m z)) e
 
 total_ticked : (p t : ℕ) (ms : List Open) → total (named p) (kept t ms) + total (named p) (lapsed t ms) ≡ total (named p) ms
@@ -109,7 +109,7 @@ module _ (now : ℕ) (a : AccessPoint) where
         had = λ R h k. subst (All (Known R)) (sym e) h;
       }
 
-  tracks_closed : (from : ℕ) (q : Packet) (m : Open) (rs : List Association) → earliest from q a.moves ≡ some m
+  tracks_closed : (from : ℕ) (q : Packet) (m : Open) (rs : List Association) → earliest from q a.moves ≡ Some m
       → Tracks now a (record { point = with_moves (close from q a.moves) (answering m) (with_associations rs a); sends = []; happened = answering m })
   unfolding with_moves answering
   tracks_closed from q m rs e =

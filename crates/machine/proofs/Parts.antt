@@ -4,7 +4,7 @@ use Prim.Native.Nat.{ℕ, ◌<◌, ◌≤◌, ◌-◌}
 use mathlib.Core.Bool.{false}
 use mathlib.Core.Path.{◌≡◌, refl}
 use mathlib.Core.List.{List, [], ◌∷◌, ◌++◌}
-use mathlib.Core.Option.{Option, some}
+use Rattle.std.specs.Prelude.{Option, Some}
 use lib.Dec.{eqb, ltb}
 use lib.ListN.{length, get_or-eq_default}
 use lib.Seq.{get_or-set_same}
@@ -61,9 +61,9 @@ by_fate P t m a b c =
 -- the old AP of a join, by cases
 pub by_origin :
     (P : Origin → Type 0) (k b : ℕ) (old : Option ℕ)
-    → ((o : ℕ) → old ≡ some o → (o ≡ b → ⊥) → o < k → P (another o))
-    → (old ≡ some b → P this)
-    → (((o : ℕ) → old ≡ some o → k ≤ o) → P nowhere)
+    → ((o : ℕ) → old ≡ Some o → (o ≡ b → ⊥) → o < k → P (another o))
+    → (old ≡ Some b → P this)
+    → (((o : ℕ) → old ≡ Some o → k ≤ o) → P nowhere)
     → P (origin_of k b old)
 unfolding origin_of
 by_origin P k b old x y z =
@@ -72,7 +72,7 @@ by_origin P k b old x y z =
     (λ q. by_cond P (ltb o k) (λ r. x o e (eqb-false o b q) (ltb-true o k r))
     (λ r. inside o e r)))
   where
-    inside : (o : ℕ) → old ≡ some o → ltb o k ≡ false → P nowhere
+    inside : (o : ℕ) → old ≡ Some o → ltb o k ≡ false → P nowhere
     inside o e r = z (λ o' e'. rw (some_inj e' e) (ltb-false o k r))
 
 -- b has the moves and counts of a
@@ -89,7 +89,7 @@ module _
     (p : Packet)
     (quiet : (b : AccessPoint) → SameMoves a b → P (quietly b))
     (answers : (x : Message) (b : AccessPoint) → SameMoves a b → P (answering_with from p x b))
-    (closes : (m : Open) (rs : List Association) → earliest from p a.moves ≡ some m
+    (closes : (m : Open) (rs : List Association) → earliest from p a.moves ≡ Some m
     → P (record { point = with_moves (close from p a.moves) (answering m) (with_associations rs a); sends = []; happened = answering m }))
   where
     same : SameMoves a a

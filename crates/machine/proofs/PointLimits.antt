@@ -4,7 +4,7 @@ use Prim.Native.Nat.{ℕ, zero, suc, ◌<◌, ◌≤◌, ◌+◌, ◌-◌, ◌%�
 use mathlib.Core.Bool.{Bool, cond, ◌&&◌}
 use mathlib.Core.Path.{◌≡◌, refl, sym, ap, ◌∙◌}
 use mathlib.Core.List.{List, [], ◌∷◌, ◌++◌}
-use mathlib.Core.Option.{none, some}
+use Rattle.std.specs.Prelude.{None, Some}
 use lib.Dec.{eqb}
 use lib.ListN.{length, length-append}
 use native.Mathlib.Omega.{arith}
@@ -44,9 +44,9 @@ fill_all s n c [] h nil = nil
 fill_all {C} s n c (r ∷ rs) h (cons k ks) =
     cons (by_cond (AssociationIn C) (same s r.station && eqb n r.sequence) (λ q. record { station = k.station; sequence = k.sequence; context = given_in c h }) (λ q. k)) (fill_all s n c rs h ks)
 
-dissociate_none : (s t : Station) (rs : List Association) → sequence_of s rs ≡ none → sequence_of s (dissociate t rs) ≡ none
+dissociate_none : (s t : Station) (rs : List Association) → sequence_of s rs ≡ None → sequence_of s (dissociate t rs) ≡ None
 dissociate_none s t rs e =
-    by_bool (λ (b : Bool). same s t ≡ b → sequence_of s (dissociate t rs) ≡ none) (same s t) (λ q z. rw (← same_true s t q) (sequence_dissociate s rs))
+    by_bool (λ (b : Bool). same s t ≡ b → sequence_of s (dissociate t rs) ≡ None) (same s t) (λ q z. rw (← same_true s t q) (sequence_dissociate s rs))
     (λ q z. sequence_dissociate_other s t rs (λ x. not_both (same_of_eq s t x) q) ∙ e) refl
 
 dissociate_distinct : (s : Station) (rs : List Association) → Distinct rs → Distinct (dissociate s rs)
@@ -65,7 +65,7 @@ fill_distinct : (s : Station) (n : ℕ) (c : List ℕ) (rs : List Association) �
 unfolding fill association
 fill_distinct s n c [] h = tt
 fill_distinct s n c (r ∷ rs) h =
-    let k : (sequence_of r.station (fill s n c rs) ≡ none) × Distinct (fill s n c rs) = (sequence_fill r.station s n c rs ∙ h.0, fill_distinct s n c rs h.1) in
+    let k : (sequence_of r.station (fill s n c rs) ≡ None) × Distinct (fill s n c rs) = (sequence_fill r.station s n c rs ∙ h.0, fill_distinct s n c rs h.1) in
     by_cond (λ (y : Association). Distinct (y ∷ fill s n c rs)) (same s r.station && eqb n r.sequence) (λ q. k) (λ q. k)
 
 dissociate_length : (s : Station) (rs : List Association) → length (dissociate s rs) ≤ length rs
@@ -79,13 +79,13 @@ fill_length s n c [] = refl
 fill_length s n c (r ∷ rs) = ap suc (fill_length s n c rs)
 
 -- a row in place of one, or one more
-associate_length : (x : Association) (rs : List Association) (k : ℕ) → (sequence_of x.station rs ≡ none → length rs < k) → length rs ≤ k → length (associate x rs) ≤ k
+associate_length : (x : Association) (rs : List Association) (k : ℕ) → (sequence_of x.station rs ≡ None → length rs < k) → length rs ≤ k → length (associate x rs) ≤ k
 unfolding associate sequence_of
 associate_length x [] k h l = omega (arith, h refl)
 associate_length x (r ∷ rs) zero h l = absurd (omega arith)
 associate_length x (r ∷ rs) (suc k) h l =
     by_bool
-    (λ (b : Bool). (cond b (some r.sequence) (sequence_of x.station rs) ≡ none → suc (length rs) < suc k) → length (cond b (x ∷ rs) (r ∷ associate x rs)) ≤ suc k)
+    (λ (b : Bool). (cond b (Some r.sequence) (sequence_of x.station rs) ≡ None → suc (length rs) < suc k) → length (cond b (x ∷ rs) (r ∷ associate x rs)) ≤ suc k)
     (same x.station r.station) (λ q z. omega arith) (λ q z. omega (arith, associate_length x rs k (λ e. omega (arith, z e)) (omega arith))) h
 
 -- moves
@@ -95,11 +95,11 @@ unfolding close
 close_all from p [] nil = nil
 close_all {P} from p (m ∷ ms) (cons h hs) = by_cond (All P) (agrees from p m.move) (λ q. hs) (λ q. cons h (close_all from p ms hs))
 
-pub close_length : (from : ℕ) (p : Packet) (ms : List Open) (m : Open) → earliest from p ms ≡ some m → suc (length (close from p ms)) ≡ length ms
+pub close_length : (from : ℕ) (p : Packet) (ms : List Open) (m : Open) → earliest from p ms ≡ Some m → suc (length (close from p ms)) ≡ length ms
 unfolding close earliest
 close_length from p [] m e = not_some refl e
 close_length from p (x ∷ ms) m e =
-    by_bool (λ (b : Bool). cond b (some x) (earliest from p ms) ≡ some m → suc (length (cond b ms (x ∷ close from p ms))) ≡ suc (length ms)) (agrees from p x.move) (λ q z. refl) (λ q z. ap suc (close_length from p ms m z)) e
+    by_bool (λ (b : Bool). cond b (Some x) (earliest from p ms) ≡ Some m → suc (length (cond b ms (x ∷ close from p ms))) ≡ suc (length ms)) (agrees from p x.move) (λ q z. refl) (λ q z. ap suc (close_length from p ms m z)) e
 
 module _ {n : ℕ} (t : ℕ) (pos : 1 ≤ t) (max : t ≤ 65535) where
   waits_in : (m : Open) → MoveIn n m → 1 < m.move.ticks_left → MoveIn n (timed m (m.move.ticks_left - 1) m.move.resends_left)
@@ -166,7 +166,7 @@ module _ {C : Type 0} {n : ℕ} {a : AccessPoint} (v : PointIn C n a) where
       let l : length a.associations ≤ 16 = v.table in
       in_associations (fill s k c a.associations) (fill_all s k c a.associations h v.associations) (fill_distinct s k c a.associations v.distinct) (omega (arith, fill_length s k c a.associations))
 
-  in_joined : (s : Station) (k : ℕ) (c : Context) → StationIn s → k ≤ 4095 → ArrayIn C 64 c.len c.octets → (sequence_of s a.associations ≡ none → length a.associations < 16) → PointIn C n (joined s k c a)
+  in_joined : (s : Station) (k : ℕ) (c : Context) → StationIn s → k ≤ 4095 → ArrayIn C 64 c.len c.octets → (sequence_of s a.associations ≡ None → length a.associations < 16) → PointIn C n (joined s k c a)
   unfolding joined association
   in_joined s k c z h l space =
       in_associations _ (associate_all _ a.associations (record { station = z; sequence = h; context = l }) v.associations) (associate_distinct _ a.associations v.distinct)
@@ -189,7 +189,7 @@ module _ {C : Type 0} {n : ℕ} {a : AccessPoint} (v : PointIn C n a) where
         balance = λ x. let bal : Balanced a = v.balance x in omega (arith, length-append a.moves (m ∷ []));
       }
 
-  in_close : (from : ℕ) (p : Packet) (m : Open) → earliest from p a.moves ≡ some m → PointIn C n (with_moves (close from p a.moves) (answering m) a)
+  in_close : (from : ℕ) (p : Packet) (m : Open) → earliest from p a.moves ≡ Some m → PointIn C n (with_moves (close from p a.moves) (answering m) a)
   unfolding with_moves answering counts_after counted
   in_close from p m e =
       let few : length a.moves ≤ 8 = v.few in
@@ -287,7 +287,7 @@ module _ {C : Type 0} {n : ℕ} {a : AccessPoint} (v : PointIn C n a) where
       (station : StationIn s)
       (seq : q ≤ 4095)
       (size : ContextIn c)
-      (space : sequence_of s a.associations ≡ none → length a.associations < 16)
+      (space : sequence_of s a.associations ≡ None → length a.associations < 16)
     where
       kept_context : PointIn C n (joined s q (held_context s a.associations) a)
       kept_context = in_joined v s q _ station seq (held_in s a.associations v.associations) space

@@ -5,12 +5,11 @@ use Prim.Native.Nat.{ℕ, zero, suc, ◌<◌, ◌≤◌}
 use mathlib.Core.Bool.{Bool, true, false, cond, ◌&&◌, ◌||◌, not}
 use mathlib.Core.Path.{◌≡◌, refl}
 use mathlib.Core.List.{List, [], ◌∷◌, ◌++◌}
-use mathlib.Core.Option.{Option, none, some}
+use Rattle.std.specs.Prelude.{Option, None, Some, is_some}
 use lib.Dec.{ltb, leb, eqb}
 use lib.ListN.{length, get_or, drop}
 use borrow.Author.Tests.{ltb-true, leb-true, lt-ltb, le-leb, eqb-true, not-false}
 use Rattle.lists.specs.Table.{first_of, accepts}
-use Rattle.lists.specs.Options.{is_some}
 use Rattle.lists.specs.Places.{every, All, nil, cons}
 use Rattle.lists.proofs.Bools.{by_cond, or_left}
 use Rattle.lists.proofs.Choices.{and_left, and_right, and_true, not_both}
@@ -65,9 +64,9 @@ association_in r h e =
       context = record { used = leb-true r.context_len 64 (and_right (leb r.sequence 4095) (leb r.context_len 64) e); size = h.size; octets = h.octets; clean = λ x. absurd x };
     }
 
-none_there : (o : Option ℕ) → not (is_some o) ≡ true → o ≡ none
-none_there none e = refl
-none_there (some m) e = not_both e refl
+none_there : (o : Option ℕ) → not (is_some o) ≡ true → o ≡ None
+none_there None e = refl
+none_there (Some m) e = not_both e refl
 
 distinct_in : (rs : List Association) → distinct rs ≡ true → Distinct rs
 unfolding distinct

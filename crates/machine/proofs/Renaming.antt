@@ -5,11 +5,11 @@ use Prim.Native.Nat.{ℕ, zero, suc, ◌+◌, ◌%◌, ◌^◌}
 use mathlib.Core.Bool.{Bool, true, false, cond, ◌&&◌}
 use mathlib.Core.Path.{◌≡◌, refl, sym, ap, ◌∙◌}
 use mathlib.Core.List.{List, [], ◌∷◌, ◌++◌, map}
-use mathlib.Core.Option.{Option, none, some}
+use Rattle.std.specs.Prelude.{Option, None, Some, is_some}
 use lib.Dec.{eqb, ltb}
 use lib.ListN.{length, set, take, length-map, get_or-map}
 use Rattle.lists.specs.Table.{accepts}
-use Rattle.lists.specs.Options.{case_option, is_some}
+use Rattle.lists.specs.Options.{case_option}
 use Rattle.lists.specs.Places.{nth, without, All, nil, cons}
 use Rattle.lists.proofs.Every.{all_map, all_nth}
 use Rattle.sequence.specs.Distance.{newer_of}
@@ -40,12 +40,12 @@ cond_by F b {b'} {x} {y} {x'} {y'} e p q = ap (λ (c : Bool). cond c x' y') e �
 -- an option of which the value is changed by G
 case_by :
     {A B C : Type 0} (F : B → C) (G : A → A) (o : Option A) {o' : Option A} {x : B} {k : A → B} {x' : C} (k' : A → C)
-    → o' ≡ case_option o none (λ a. some (G a)) → x' ≡ F x → ((a : A) → o ≡ some a → k' (G a) ≡ F (k a)) → case_option o' x' k' ≡ F (case_option o x k)
+    → o' ≡ case_option o None (λ a. Some (G a)) → x' ≡ F x → ((a : A) → o ≡ Some a → k' (G a) ≡ F (k a)) → case_option o' x' k' ≡ F (case_option o x k)
 case_by F G o {o'} {x} {k} {x'} k' e p q = ap (λ (z : Option _). case_option z x' k') e ∙ go o refl
   where
-    go : (z : Option _) → o ≡ z → case_option (case_option z none (λ a. some (G a))) x' k' ≡ F (case_option z x k)
-    go none d = p
-    go (some a) d = q a d
+    go : (z : Option _) → o ≡ z → case_option (case_option z None (λ a. Some (G a))) x' k' ≡ F (case_option z x k)
+    go None d = p
+    go (Some a) d = q a d
 
 -- an option that stays
 case_same :
@@ -54,8 +54,8 @@ case_same :
 case_same F o {o'} {x} {k} {x'} {k'} e p q = ap (λ (z : Option _). case_option z x' k') e ∙ go o
   where
     go : (o : Option _) → case_option o x' k' ≡ F (case_option o x k)
-    go none = p
-    go (some a) = q a
+    go None = p
+    go (Some a) = q a
 
 map_append : {A B : Type 0} (F : A → B) (xs ys : List A) → map F (xs ++ ys) ≡ map F xs ++ map F ys
 map_append F [] ys = refl
@@ -66,7 +66,7 @@ map_set F [] i x = refl
 map_set F (y ∷ ys) zero x = refl
 map_set F (y ∷ ys) (suc i) x = ap (◌∷◌ (F y)) (map_set F ys i x)
 
-nth_map : {A : Type 0} (F : A → A) (k : ℕ) (xs : List A) → nth k (map F xs) ≡ case_option (nth k xs) none (λ x. some (F x))
+nth_map : {A : Type 0} (F : A → A) (k : ℕ) (xs : List A) → nth k (map F xs) ≡ case_option (nth k xs) None (λ x. Some (F x))
 unfolding nth
 nth_map F k [] = refl
 nth_map F zero (x ∷ xs) = refl
@@ -124,7 +124,7 @@ module _ (h : ℕ → ℕ) (g : List ℕ → List ℕ) where
     sequence_map : (s : Station) (rs : List Association) → sequence_of s (map map_association rs) ≡ sequence_of s rs
     unfolding sequence_of map_association
     sequence_map s [] = refl
-    sequence_map s (r ∷ rs) = ap (cond (same s r.station) (some r.sequence)) (sequence_map s rs)
+    sequence_map s (r ∷ rs) = ap (cond (same s r.station) (Some r.sequence)) (sequence_map s rs)
 
     given_map : (c : List ℕ) → given (g c) ≡ map_context (given c)
     unfolding given map_context
@@ -179,10 +179,10 @@ module _ (h : ℕ → ℕ) (g : List ℕ → List ℕ) where
     unfolding agrees
     agrees_map from p m = refl
 
-    earliest_map : (from : ℕ) (p : Packet) (ms : List Open) → earliest from (map_packet g p) (map map_open ms) ≡ case_option (earliest from p ms) none (λ m. some (map_open m))
+    earliest_map : (from : ℕ) (p : Packet) (ms : List Open) → earliest from (map_packet g p) (map map_open ms) ≡ case_option (earliest from p ms) None (λ m. Some (map_open m))
     unfolding earliest
     earliest_map from p [] = refl
-    earliest_map from p (m ∷ ms) = cond_by (λ (o : Option Open). case_option o none (λ m. some (map_open m))) (agrees from p m.move) (agrees_map from p m) refl (earliest_map from p ms)
+    earliest_map from p (m ∷ ms) = cond_by (λ (o : Option Open). case_option o None (λ m. Some (map_open m))) (agrees from p m.move) (agrees_map from p m) refl (earliest_map from p ms)
 
     close_map : (from : ℕ) (p : Packet) (ms : List Open) → close from (map_packet g p) (map map_open ms) ≡ map map_open (close from p ms)
     unfolding close

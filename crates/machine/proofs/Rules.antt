@@ -6,7 +6,7 @@ use mathlib.Core.Bool.{Bool, true, false, ◌&&◌, ◌||◌}
 use mathlib.Core.Path.{◌≡◌, refl, sym, subst, ◌∙◌}
 use mathlib.Core.List.{List, [], ◌∷◌, ◌++◌}
 use mathlib.Core.Logic.{◌⊎◌, inl, inr, ◌≢◌}
-use mathlib.Core.Option.{Option, none, some}
+use Rattle.std.specs.Prelude.{Option, None, Some}
 use lib.Dec.{eqb}
 use lib.ListN.{length}
 use borrow.Author.Tests.{eqb-true, eqb-false, eq-eqb}
@@ -38,13 +38,13 @@ abbrev pub Acted : Station → List Join → (ℕ → Bool) → GivenUp → Netw
 Acted s J G L f b x = Inv s J G L (set_point b x.point f) × All (OutgoingOk s J (row_at s (set_point b x.point f)) b) x.sends
 
 -- the association at b after its record was set
-settled_own : (s : Station) (f : Network) (b : ℕ) (a : AccessPoint) (n : ℕ) → ((m : ℕ) → sequence_of s a.associations ≡ some m → newer_of n m ≡ false) → Settled (row_at s (set_point b a f)) b n
+settled_own : (s : Station) (f : Network) (b : ℕ) (a : AccessPoint) (n : ℕ) → ((m : ℕ) → sequence_of s a.associations ≡ Some m → newer_of n m ≡ false) → Settled (row_at s (set_point b a f)) b n
 unfolding new_point sequence_of
-settled_own s f b a n h m = point_set_own (λ (x : AccessPoint). sequence_of s x.associations ≡ some m → newer_of n m ≡ false) f b a (h m) (λ e. not_some refl e)
+settled_own s f b a n h m = point_set_own (λ (x : AccessPoint). sequence_of s x.associations ≡ Some m → newer_of n m ≡ false) f b a (h m) (λ e. not_some refl e)
 
 -- associations of which none but the station's may be gone, and that not where it is the latest join's
 record Removal (s : Station) (J : List Join) (f : Network) (b : ℕ) (rs : List Association) : Type 0 where
-  row : (m : ℕ) → sequence_of s rs ≡ some m → row_at s f b ≡ some m
+  row : (m : ℕ) → sequence_of s rs ≡ Some m → row_at s f b ≡ Some m
   keeps : (n : ℕ) → LastAt n b J → sequence_of s rs ≡ row_at s f b
 
 -- moves
@@ -87,7 +87,7 @@ module _ {s : Station} {J : List Join} {G : ℕ → Bool} {L : GivenUp} {f : Net
         keeps = λ m k. sequence_fill s t n c (access_point_at f b).associations;
       }
 
-  removed : (t : Station) → (s ≡ t → (m : ℕ) → row_at s f b ≡ some m → ¬ Last m J) → Removal s J f b (dissociate t (access_point_at f b).associations)
+  removed : (t : Station) → (s ≡ t → (m : ℕ) → row_at s f b ≡ Some m → ¬ Last m J) → Removal s J f b (dissociate t (access_point_at f b).associations)
   removed t h =
       record {
         row = dissociate_shrinks s t (access_point_at f b).associations;
@@ -100,7 +100,7 @@ module _ {s : Station} {J : List Join} {G : ℕ → Bool} {L : GivenUp} {f : Net
       go n k (inr q) = sequence_dissociate_other s t (access_point_at f b).associations q
 
   -- other associations
-  fewer : (rs : List Association) → ((m : ℕ) → sequence_of s rs ≡ some m → row_at s f b ≡ some m) → Shrinks s J L f b (with_associations rs (access_point_at f b))
+  fewer : (rs : List Association) → ((m : ℕ) → sequence_of s rs ≡ Some m → row_at s f b ≡ Some m) → Shrinks s J L f b (with_associations rs (access_point_at f b))
   unfolding with_associations
   fewer rs h = record { row = h; moves = v.moves b; held = λ n o p k. inl k }
 
@@ -137,7 +137,7 @@ module _ {s : Station} {J : List Join} {G : ℕ → Bool} {L : GivenUp} {f : Net
 
   module _ (order : InOrder J) (from : ℕ) (p : Packet) (h : PacketOk s J (row_at s f) from b p) where
     -- an association that a known number is newer than is not that of the latest join
-    outdated : (m : ℕ) → sequence_of p.station (access_point_at f b).associations ≡ some m → newer_of p.sequence m ≡ true → s ≡ p.station → (k : ℕ) → row_at s f b ≡ some k → ¬ Last k J
+    outdated : (m : ℕ) → sequence_of p.station (access_point_at f b).associations ≡ Some m → newer_of p.sequence m ≡ true → s ≡ p.station → (k : ℕ) → row_at s f b ≡ Some k → ¬ Last k J
     outdated m e q x k r l = not_both q (rw (some_inj (rw (← x) at e) r) (last_newest k p.sequence J order l (h.known (sym x))))
 
     older : Removal s J f b (dissociate_older p.station p.sequence (access_point_at f b).associations)
@@ -257,10 +257,10 @@ module _ {s : Station} {J : List Join} {G : ℕ → Bool} {L : GivenUp} {f : Net
 
 -- leave
 
-left_there : (s : Station) (b : ℕ) (f : Network) → row_at s (set_point b (with_associations (dissociate s (access_point_at f b).associations) (access_point_at f b)) f) b ≡ none
+left_there : (s : Station) (b : ℕ) (f : Network) → row_at s (set_point b (with_associations (dissociate s (access_point_at f b).associations) (access_point_at f b)) f) b ≡ None
 unfolding with_associations new_point sequence_of
 left_there s b f =
-    point_set_own (λ (x : AccessPoint). sequence_of s x.associations ≡ none) f b _ (sequence_dissociate s (access_point_at f b).associations) refl
+    point_set_own (λ (x : AccessPoint). sequence_of s x.associations ≡ None) f b _ (sequence_dissociate s (access_point_at f b).associations) refl
 
 left_elsewhere : (s : Station) (b c : ℕ) (a : AccessPoint) (f : Network) → c ≢ b → row_at s (set_point b a f) c ≡ row_at s f c
 left_elsewhere s b c a f h = point_set (λ (x : AccessPoint). sequence_of s x.associations ≡ row_at s f c) f b c a refl (λ q. absurd (h (sym q)))
@@ -277,9 +277,9 @@ module _ {s : Station} {J : List Join} {G : ℕ → Bool} {L : GivenUp} {f : Net
       rw (same_refl s) (
         inv_change v b a (fewer v b _ (dissociate_shrinks s s (access_point_at f b).associations))
             (λ c. (eqb c b && eqb 0 0) || G c)
-            (λ n c k. by_bool (λ (x : Bool). ((x && eqb 0 0) || G c ≡ false) → row_at s (set_point b a f) c ≡ some n) (eqb c b)
+            (λ n c k. by_bool (λ (x : Bool). ((x && eqb 0 0) || G c ≡ false) → row_at s (set_point b a f) c ≡ Some n) (eqb c b)
             (λ q e. not_both refl e) (λ q e. left_elsewhere s b c a f (eqb-false c b q) ∙ v.stays n c k e))
-            (λ n c k. by_bool (λ (x : Bool). ((x && eqb 0 0) || G c ≡ true) → row_at s (set_point b a f) c ≡ none) (eqb c b)
+            (λ n c k. by_bool (λ (x : Bool). ((x && eqb 0 0) || G c ≡ true) → row_at s (set_point b a f) c ≡ None) (eqb c b)
             (λ q e. rw (eqb-true c b q) (left_there s b f)) (λ q e. left_elsewhere s b c a f (eqb-false c b q) ∙ v.gone n c k e)),
         nil,
       )
@@ -293,7 +293,7 @@ module _ {s : Station} {J : List Join} {G : ℕ → Bool} {L : GivenUp} {f : Net
 
 -- join
 
-row_out : (s : Station) (f : Network) (b : ℕ) → length f.points ≤ b → row_at s f b ≡ none
+row_out : (s : Station) (f : Network) (b : ℕ) → length f.points ≤ b → row_at s f b ≡ None
 unfolding sequence_of new_point
 row_out s f b h = rw (point_out f b h)
 
@@ -320,11 +320,11 @@ module _ {s : Station} {J : List Join} {G : ℕ → Bool} {L : GivenUp} {f : Net
     abbrev own : Join
     own = record { at = b; sequence = n; old = old; place = name }
 
-    row_put : (x : Context) → sequence_of s (joined s n x (access_point_at f b)).associations ≡ some n
+    row_put : (x : Context) → sequence_of s (joined s n x (access_point_at f b)).associations ≡ Some n
     unfolding joined with_associations association
     row_put x = sequence_associate (association s n x) (access_point_at f b).associations
 
-    own_another : (o : ℕ) → old ≡ some o → o ≢ b → Acted s (own ∷ J) (λ (d : ℕ). false) L f b (join_from (another o) (length f.points) t r name b s n c (access_point_at f b))
+    own_another : (o : ℕ) → old ≡ Some o → o ≢ b → Acted s (own ∷ J) (λ (d : ℕ). false) L f b (join_from (another o) (length f.points) t r name b s n c (access_point_at f b))
     unfolding join_from with_moves use_identifier joined with_associations
     own_another o e h = (inv_join v own a order fits row held ok new, cons (notice_ok _ b m move) nil)
       where
@@ -334,7 +334,7 @@ module _ {s : Station} {J : List Join} {G : ℕ → Bool} {L : GivenUp} {f : Net
         a : AccessPoint
         a = with_moves ((access_point_at f b).moves ++ (m ∷ [])) (opening m) (use_identifier (joined s n (held_context s (access_point_at f b).associations) (access_point_at f b)))
 
-        row : sequence_of s a.associations ≡ some n
+        row : sequence_of s a.associations ≡ Some n
         row = row_put (held_context s (access_point_at f b).associations)
 
         held : (k d p : ℕ) → Holds s k d p (access_point_at f b).moves → Holds s k d p a.moves
@@ -351,14 +351,14 @@ module _ {s : Station} {J : List Join} {G : ℕ → Bool} {L : GivenUp} {f : Net
             inl (rw (point_set_same f b a fits)
             (holds_last s n d name (access_point_at f b).moves m (unfold new_move in record { station = refl; sequence = refl; old = some_inj e q; name = refl })))
 
-    own_this : old ≡ some b → Acted s (own ∷ J) (λ (d : ℕ). false) L f b (join_from this (length f.points) t r name b s n c (access_point_at f b))
+    own_this : old ≡ Some b → Acted s (own ∷ J) (λ (d : ℕ). false) L f b (join_from this (length f.points) t r name b s n c (access_point_at f b))
     unfolding join_from quietly joined with_associations
     own_this e = (inv_join v own a order fits row held ok new, nil)
       where
         a : AccessPoint
         a = joined s n (held_context s (access_point_at f b).associations) (access_point_at f b)
 
-        row : sequence_of s a.associations ≡ some n
+        row : sequence_of s a.associations ≡ Some n
         row = row_put (held_context s (access_point_at f b).associations)
 
         held : (k d p : ℕ) → Holds s k d p (access_point_at f b).moves → Holds s k d p a.moves
@@ -370,14 +370,14 @@ module _ {s : Station} {J : List Join} {G : ℕ → Bool} {L : GivenUp} {f : Net
         new : Handed s L (set_point b a f) own
         new d q = inr (inr (λ m z. rw (some_inj (rw (some_inj q e) at z) (at_join v own a order fits row held)) (newer_irrefl n)))
 
-    own_nowhere : ((o : ℕ) → old ≡ some o → length f.points ≤ o) → Acted s (own ∷ J) (λ (d : ℕ). false) L f b (join_from nowhere (length f.points) t r name b s n c (access_point_at f b))
+    own_nowhere : ((o : ℕ) → old ≡ Some o → length f.points ≤ o) → Acted s (own ∷ J) (λ (d : ℕ). false) L f b (join_from nowhere (length f.points) t r name b s n c (access_point_at f b))
     unfolding join_from joined with_associations use_identifier
     own_nowhere far = (inv_join v own a order fits row held ok new, adds_all s (own ∷ J) _ b _ 0 (length f.points) (record { known = λ e. inl refl; message = λ e. tt }) refl)
       where
         a : AccessPoint
         a = use_identifier (joined s n (given c) (access_point_at f b))
 
-        row : sequence_of s a.associations ≡ some n
+        row : sequence_of s a.associations ≡ Some n
         row = row_put (given c)
 
         held : (k d p : ℕ) → Holds s k d p (access_point_at f b).moves → Holds s k d p a.moves
@@ -388,7 +388,7 @@ module _ {s : Station} {J : List Join} {G : ℕ → Bool} {L : GivenUp} {f : Net
 
         new : Handed s L (set_point b a f) own
         new d q =
-            inr (inr (λ m. point_set (λ (x : AccessPoint). sequence_of s x.associations ≡ some m → newer_of n m ≡ false) f b d a (λ z. not_some (row_out s f d (far d q)) z)
+            inr (inr (λ m. point_set (λ (x : AccessPoint). sequence_of s x.associations ≡ Some m → newer_of n m ≡ false) f b d a (λ z. not_some (row_out s f d (far d q)) z)
             (λ x z. rw (some_inj z row) (newer_irrefl n))))
 
     pub acted_own : Acted s (own ∷ J) (λ (d : ℕ). false) L f b (join_from (origin_of (length f.points) b old) (length f.points) t r name b s n c (access_point_at f b))

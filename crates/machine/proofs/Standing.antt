@@ -5,11 +5,10 @@ use mathlib.Core.Bool.{Bool, true, false, cond, ◌&&◌, not}
 use mathlib.Core.Path.{◌≡◌, refl, sym, ap, subst, ◌∙◌}
 use mathlib.Core.List.{List, [], ◌∷◌}
 use mathlib.Core.Logic.{◌⊎◌, inl, inr, ◌≢◌}
-use mathlib.Core.Option.{Option, none, some}
+use Rattle.std.specs.Prelude.{Option, None, Some, is_some}
 use lib.Dec.{eqb}
 use lib.ListN.{length}
 use borrow.Author.Tests.{eqb-true, eqb-false}
-use Rattle.lists.specs.Options.{is_some}
 use Rattle.lists.proofs.Bools.{by_cond}
 use Rattle.lists.proofs.Choices.{by_bool, and_left, and_right, or_mono, not_both, false_unless, not_some, some_inj, is_none}
 use Rattle.lists.specs.Places.{All, nil, cons}
@@ -77,18 +76,18 @@ begin_keeps s n t r h =
 -- the association at another AP is that of its latest join, and the next join is newer and names that AP
 between :
     (Q : Join → Type 0) (i m : ℕ) (j : Join) (js : List Join)
-    → InOrder (j ∷ js) → All Q (j ∷ js) → i ≢ j.at → latest i (j ∷ js) ≡ some m
-    → (k : Join) × (next_from i j js ≡ some k) × Q k × (k.old ≡ some i) × (newer_of k.sequence m ≡ true)
+    → InOrder (j ∷ js) → All Q (j ∷ js) → i ≢ j.at → latest i (j ∷ js) ≡ Some m
+    → (k : Join) × (next_from i j js ≡ Some k) × Q k × (k.old ≡ Some i) × (newer_of k.sequence m ≡ true)
 unfolding latest next_from
 between Q i m j [] h (cons q qs) d e =
-    absurd (by_cond (λ (o : Option ℕ). o ≡ some m → ⊥) (eqb i j.at) (λ x y. d (eqb-true i j.at x)) (λ x y. not_some refl y) e)
+    absurd (by_cond (λ (o : Option ℕ). o ≡ Some m → ⊥) (eqb i j.at) (λ x y. d (eqb-true i j.at x)) (λ x y. not_some refl y) e)
 between Q i m j (x ∷ xs) h (cons q qs) d e =
     by_cond
-    (λ (o : Option ℕ). o ≡ some m → (k : Join) × (cond (eqb i x.at) (some j) (next_from i x xs) ≡ some k) × Q k × (k.old ≡ some i) × (newer_of k.sequence m ≡ true)) (eqb i j.at)
+    (λ (o : Option ℕ). o ≡ Some m → (k : Join) × (cond (eqb i x.at) (Some j) (next_from i x xs) ≡ Some k) × Q k × (k.old ≡ Some i) × (newer_of k.sequence m ≡ true)) (eqb i j.at)
     (λ y z. absurd (d (eqb-true i j.at y)))
     (λ y z. by_bool
-    (λ (b : Bool). cond b (some x.sequence) (latest i xs) ≡ some m → (eqb i x.at ≡ b) → (k : Join) × (cond b (some j) (next_from i x xs) ≡ some k) × Q k × (k.old ≡ some i) × (newer_of k.sequence m ≡ true)) (eqb i x.at)
-    (λ c u c'. (j, refl, q, h.1 ∙ ap some (sym (eqb-true i x.at c')), subst (λ (a : ℕ). newer_of j.sequence a ≡ true) (some_inj refl u) h.0.0))
+    (λ (b : Bool). cond b (Some x.sequence) (latest i xs) ≡ Some m → (eqb i x.at ≡ b) → (k : Join) × (cond b (Some j) (next_from i x xs) ≡ Some k) × Q k × (k.old ≡ Some i) × (newer_of k.sequence m ≡ true)) (eqb i x.at)
+    (λ c u c'. (j, refl, q, h.1 ∙ ap Some (sym (eqb-true i x.at c')), subst (λ (a : ℕ). newer_of j.sequence a ≡ true) (some_inj refl u) h.0.0))
     (λ c u c'. between Q i m x xs h.2 qs (eqb-false i x.at c') (rw c' u)) z refl) e
 
 is_own : (s : Station) (o p : ℕ) (m : Open) → is_move s o p m ≡ true → same s m.move.station ≡ true
@@ -107,21 +106,21 @@ given_up_own s o p (x ∷ xs) e = or_mono _ _ _ _ (among_own s o p x.outcome.hap
 
 -- by the association
 
-none_false : (s : Station) (f : Network) (i : ℕ) → row_at s f i ≡ none → holds s (access_point_at f i) ≡ false
+none_false : (s : Station) (f : Network) (i : ℕ) → row_at s f i ≡ None → holds s (access_point_at f i) ≡ false
 unfolding holds
 none_false s f i e = ap is_some e
 
-some_true : (s : Station) (f : Network) (i m : ℕ) → row_at s f i ≡ some m → holds s (access_point_at f i) ≡ true
+some_true : (s : Station) (f : Network) (i m : ℕ) → row_at s f i ≡ Some m → holds s (access_point_at f i) ≡ true
 unfolding holds
 some_true s f i m e = ap is_some e
 
-true_some : (s : Station) (f : Network) (i : ℕ) → holds s (access_point_at f i) ≡ true → (m : ℕ) × (row_at s f i ≡ some m)
+true_some : (s : Station) (f : Network) (i : ℕ) → holds s (access_point_at f i) ≡ true → (m : ℕ) × (row_at s f i ≡ Some m)
 unfolding holds
 true_some s f i e = go (row_at s f i) refl e
   where
-    go : (o : Option ℕ) → row_at s f i ≡ o → is_some o ≡ true → (m : ℕ) × (row_at s f i ≡ some m)
-    go none q x = not_both x refl
-    go (some m) q x = (m, q)
+    go : (o : Option ℕ) → row_at s f i ≡ o → is_some o ≡ true → (m : ℕ) × (row_at s f i ≡ Some m)
+    go None q x = not_both x refl
+    go (Some m) q x = (m, q)
 
 -- a group address has no accepted join
 
@@ -163,7 +162,7 @@ abbrev Unanswered : Station → World → ℕ → Join → Type 0
 Unanswered s w i k = (move_is_open s w.log i k.place ≡ true) ⊎ (move_given_up s w.log i k.place ≡ true)
 
 module _ (s : Station) (w : World) (tracks : Tracked w) (g : is_group s ≡ false) where
-  unanswered : (i m : ℕ) (k : Join) → row_at s w.network i ≡ some m → newer_of k.sequence m ≡ true
+  unanswered : (i m : ℕ) (k : Join) → row_at s w.network i ≡ Some m → newer_of k.sequence m ≡ true
       → HandedTo s (move_given_up s w.log) (row_at s w.network) (access_point_at w.network k.at).moves k.sequence i k.place → Unanswered s w i k
   unanswered i m k q n (inl x) =
       inl (holds_open w tracks k.at s k.sequence i k.place x)
@@ -171,7 +170,7 @@ module _ (s : Station) (w : World) (tracks : Tracked w) (g : is_group s ≡ fals
   unanswered i m k q n (inr (inr x)) = not_both n (x m q)
 
   others_at : (j : Join) (js : List Join) → InOrder (j ∷ js) → Inv s (j ∷ js) (left s (answers_of w.log)) (move_given_up s w.log) w.network
-      → (i : ℕ) → i ≢ j.at → stands s w i ≡ true → (k : Join) × (next_from i j js ≡ some k) × Unanswered s w i k
+      → (i : ℕ) → i ≢ j.at → stands s w i ≡ true → (k : Join) × (next_from i j js ≡ Some k) × Unanswered s w i k
   others_at j js h v i d e =
       let q = true_some s w.network i (sym (stands_row s w i g) ∙ e) in
       let b = between (Handed s (move_given_up s w.log) w.network) i q.0 j js h v.handed d (v.rows i q.0 q.1) in
@@ -191,7 +190,7 @@ module _ (s : Station) (w : World) (tracks : Tracked w) (g : is_group s ≡ fals
       either k (inl x) = not_both (open_own s w.log i k.place x) closed
       either k (inr x) = not_both (given_up_own s i k.place w.log x) kept
 
-      go : (k : Join) × (next_from i j js ≡ some k) × Unanswered s w i k → ⊥
+      go : (k : Join) × (next_from i j js ≡ Some k) × Unanswered s w i k → ⊥
       go x = either x.0 x.2
 
   standing_by : (J : List Join) → InOrder J → Inv s J (left s (answers_of w.log)) (move_given_up s w.log) w.network → Standing s w J

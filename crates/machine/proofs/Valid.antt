@@ -5,7 +5,7 @@ use Prim.Native.Nat.{ℕ, zero, suc, ◌<◌, ◌≤◌}
 use mathlib.Core.Bool.{true, false}
 use mathlib.Core.Path.{◌≡◌, refl, subst, ◌∙◌}
 use mathlib.Core.List.{List, [], ◌∷◌, ◌++◌}
-use mathlib.Core.Option.{Option, none}
+use Rattle.std.specs.Prelude.{Option, None}
 use lib.Dec.{eqb, ltb}
 use lib.ListN.{length, get_or, replicate, length-append, length-set, length-replicate}
 use native.Mathlib.Omega.{arith}
@@ -36,7 +36,7 @@ pub record JoinPassed (f : Network) (b : ℕ) (s : Station) (n : ℕ) (old : Opt
   pub single : is_group s ≡ false
   pub sequence : n ≤ 4095
   pub context : length c ≤ 64
-  pub room : sequence_of s (access_point_at f b).associations ≡ none → length (access_point_at f b).associations < 16
+  pub room : sequence_of s (access_point_at f b).associations ≡ None → length (access_point_at f b).associations < 16
   pub few : needs_move (origin_of (length f.points) b old) ≡ true → length (access_point_at f b).moves < 8
 
 pub join_passed : (f : Network) (b : ℕ) (s : Station) (n : ℕ) (old : Option ℕ) (c : List ℕ) → accepts (refusal f (join b s n old c)) ≡ true → JoinPassed f b s n old c

@@ -1,10 +1,10 @@
 -- Document 01, "One access point", and the rules of the floor machine that concern one access point: what it does when a station
 -- joins or leaves, when a packet is received, and at a tick. Each rule gives the access point's record afterwards and the
 -- packets that it sends, in order.
-use Rattle.std.specs.Prelude.{ℕ, zero, suc, ◌+◌, ◌%◌, Bool, true, false, cond, ◌&&◌, not, List, [], ◌∷◌, ◌++◌, ltb, leb, eqb, length}
-use Rattle.std.proofs.Math.Option.{Option}
+use Rattle.std.specs.Prelude.{ℕ, zero, suc, ◌+◌, ◌%◌, Bool, true, false, cond, ◌&&◌, not, List, [], ◌∷◌, ◌++◌, ltb, leb, eqb, length, is_some}
+use Rattle.std.specs.Prelude.{Option}
 use Rattle.lists.specs.Table.{Test}
-use Rattle.lists.specs.Options.{case_option, is_some}
+use Rattle.lists.specs.Options.{case_option}
 use Rattle.sequence.specs.Distance.{newer_of}
 use Rattle.elements.specs.declared.Association.{Association}
 use Rattle.machine.specs.Stations.{Station}

@@ -1,8 +1,8 @@
 -- Document 01, "The floor machine": the seven events, their refusals, and what an event answers and does to the network.
-use Rattle.std.specs.Prelude.{ℕ, zero, suc, ◌+◌, ◌*◌, ◌/◌, ◌%◌, ◌<◌, ◌≡◌, Bool, cond, not, List, [], ◌∷◌, ltb, length}
-use Rattle.std.proofs.Math.Option.{Option}
+use Rattle.std.specs.Prelude.{ℕ, zero, suc, ◌+◌, ◌*◌, ◌/◌, ◌%◌, ◌<◌, ◌≡◌, Bool, cond, not, List, [], ◌∷◌, ltb, length, is_some}
+use Rattle.std.specs.Prelude.{Option}
 use Rattle.lists.specs.Table.{Test, first_of, accepts}
-use Rattle.lists.specs.Options.{case_option, is_some}
+use Rattle.lists.specs.Options.{case_option}
 use Rattle.lists.specs.Places.{nth, without, All}
 use Rattle.elements.specs.declared.InFlight.{InFlight}
 use Rattle.machine.specs.Stations.{Station, is_group}

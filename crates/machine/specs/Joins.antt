@@ -1,7 +1,7 @@
 -- Document 01, "The list and the words of demand 3": the accepted joins of a station, and where it has left since. They are read off
 -- the events and their answers alone.
 use Rattle.std.specs.Prelude.{ℕ, Bool, false, cond, ◌&&◌, ◌||◌, List, [], ◌∷◌, eqb, length}
-use Rattle.std.proofs.Math.Option.{Option}
+use Rattle.std.specs.Prelude.{Option}
 use Rattle.machine.specs.Stations.{Station, same}
 use Rattle.machine.specs.Events.{Event, join, leave, deliver, repeat, lose, tick, who}
 use Rattle.machine.specs.History.{Entry}

@@ -1,7 +1,7 @@
 -- The open moves of one access point. Document 01: "A move holds station, sequence, old AP, identifier, ticks left (1..65535),
 -- resends left (0..7)."
 use Rattle.std.specs.Prelude.{ℕ, ◌+◌, ◌-◌, ◌%◌, ◌^◌, Bool, cond, ◌&&◌, List, [], ◌∷◌, ltb, eqb}
-use Rattle.std.proofs.Math.Option.{Option, none, some}
+use Rattle.std.specs.Prelude.{Option, None, Some}
 use Rattle.elements.specs.declared.Move.{Move}
 use Rattle.machine.specs.Stations.{Station, same}
 use Rattle.machine.specs.Packets.{Packet, Outgoing, move_notify}
@@ -76,8 +76,8 @@ agrees from p m = eqb p.identifier m.identifier && same p.station m.station && e
 
 -- "the earliest opened move that agrees"
 unfoldable pub earliest : ℕ → Packet → List Open → Option Open
-earliest from p [] = none
-earliest from p (m ∷ ms) = cond (agrees from p m.move) (some m) (earliest from p ms)
+earliest from p [] = None
+earliest from p (m ∷ ms) = cond (agrees from p m.move) (Some m) (earliest from p ms)
 
 -- the moves without it
 unfoldable pub close : ℕ → Packet → List Open → List Open

@@ -2,9 +2,8 @@
 -- number outside this paper's limits, with two rows of one station at one AP, or with a packet in the air that the reader
 -- refuses, also gets 14, before every other number". Here are the tests that a record passes where 14 does not apply. Only used
 -- parts are looked at.
-use Rattle.std.specs.Prelude.{ℕ, Bool, true, ◌&&◌, not, List, [], ◌∷◌, ltb, leb, length}
+use Rattle.std.specs.Prelude.{ℕ, Bool, true, ◌&&◌, not, List, [], ◌∷◌, ltb, leb, length, is_some}
 use Rattle.lists.specs.Table.{first_of, accepts}
-use Rattle.lists.specs.Options.{is_some}
 use Rattle.lists.specs.Places.{every}
 use Rattle.elements.specs.declared.Association.{Association}
 use Rattle.elements.specs.declared.InFlight.{InFlight}

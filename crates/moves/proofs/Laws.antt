@@ -4,7 +4,7 @@ use Prim.Native.Nat.{ℕ, suc, ◌+◌, ◌%◌, ◌^◌, ◌<◌, ◌≤◌}
 use mathlib.Core.Path.{◌≡◌, refl, sym, ap, ◌∙◌}
 use mathlib.Core.Bool.{Bool, true, false, cond}
 use mathlib.Core.List.{List, [], ◌∷◌, map}
-use mathlib.Core.Option.{Option, none, some}
+use Rattle.std.specs.Prelude.{Option, None, Some}
 use native.Mathlib.Omega.{arith}
 use native.Mathlib.Nat.{add-zero, mod-eq_of_lt, mod-add-mod}
 use lib.Dec.{ltb, leb-suc-suc, leb-zero}
@@ -31,7 +31,7 @@ only_asked from p m = refl
 pub earliest_asked : (from : ℕ) (p : Packet) (ms : List Open) → earliest from p ms ≡ earliest from (asked_by p) ms
 unfolding earliest agrees
 earliest_asked from p [] = refl
-earliest_asked from p (m ∷ ms) = ap (λ (o : Option Open). cond (agrees from p m.move) (some m) o) (earliest_asked from p ms)
+earliest_asked from p (m ∷ ms) = ap (λ (o : Option Open). cond (agrees from p m.move) (Some m) o) (earliest_asked from p ms)
 
 pub close_asked : (from : ℕ) (p : Packet) (ms : List Open) → close from p ms ≡ close from (asked_by p) ms
 unfolding close agrees
@@ -46,17 +46,17 @@ index_asked from p xs = refl
 
 pub earliest_at : (from : ℕ) (p : Packet) (xs : List Move) (d : Move)
     → earliest from p (map named xs)
-    ≡ cond (ltb (index_by (agrees from p) xs) (length xs)) (some (named (get_or xs (index_by (agrees from p) xs) d))) none
+    ≡ cond (ltb (index_by (agrees from p) xs) (length xs)) (Some (named (get_or xs (index_by (agrees from p) xs) d))) None
 unfolding earliest named
 earliest_at from p [] d = refl
 earliest_at from p (x ∷ xs) d = go (agrees from p x) (earliest_at from p xs d)
   where
     go : (b : Bool)
         → earliest from p (map named xs)
-        ≡ cond (ltb (index_by (agrees from p) xs) (length xs)) (some (named (get_or xs (index_by (agrees from p) xs) d))) none
-        → cond b (some (named x)) (earliest from p (map named xs))
+        ≡ cond (ltb (index_by (agrees from p) xs) (length xs)) (Some (named (get_or xs (index_by (agrees from p) xs) d))) None
+        → cond b (Some (named x)) (earliest from p (map named xs))
         ≡ cond (ltb (cond b 0 (suc (index_by (agrees from p) xs))) (suc (length xs)))
-        (some (named (get_or (x ∷ xs) (cond b 0 (suc (index_by (agrees from p) xs))) d))) none
+        (Some (named (get_or (x ∷ xs) (cond b 0 (suc (index_by (agrees from p) xs))) d))) None
     go true e = rw (leb-suc-suc 0 (length xs), leb-zero (length xs))
     go false e = e ∙ rw (leb-suc-suc (suc (index_by (agrees from p) xs)) (length xs))
 

@@ -6,7 +6,7 @@ use record::AccessPoint;
 
 // Document 01: the air, its packets in order of sending.
 #[repr(C)]
-#[derive(Clone, Copy)]
+#[derive(Clone, Copy, Debug, PartialEq, Eq)]
 pub struct InFlights {
     pub items: [InFlight; 64],
     pub count: usize,
@@ -14,7 +14,7 @@ pub struct InFlights {
 
 // Document 01: the floor, its APs numbered from 0.
 #[repr(C)]
-#[derive(Clone, Copy)]
+#[derive(Clone, Copy, Debug, PartialEq, Eq)]
 pub struct Network {
     pub ap_count: u8,
     // Document 01: T, in ticks, and R.

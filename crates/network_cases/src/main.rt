@@ -5,47 +5,47 @@
 //     EVENT AT STATION SEQ OLD CONTEXT         an event: ANSWER SENT GIVENUP HELD TABLES DIGEST
 //     set WHOLE.PART PLACE .. VALUE            a part of the record put in place by hand: DIGEST
 //
-// A station is a number, see `words::station`, and the context is its number of octets, see `turns::rising`. A missing field is `-` or
+// A station is a number, see `Line::station`, and the context is its number of octets, see `turns::turn`. A missing field is `-` or
 // left out. Any other line is printed as it is.
 #![tactic(auto)]
 
-ghost use Rattle.std.specs.Prelude.{◌≤◌, length};
-
 mod digest;
-mod line;
 mod parts;
 mod turns;
 mod words;
 
+ghost use Rattle.std.specs.Prelude.{◌≤◌, length};
+
 use network::Network;
 use std::io::{Read, Result};
+use words::Line;
 
-// The record after one line.
-fn act(rt: &impl Print, before: Network, text: &[u8]) -> Result<Network> {
-    if words::begins(text, b"floor ") {
-        return turns::floor(rt, text);
+// The record after one line. A line that is one word, or whose first word is none of these, is printed as it is.
+fn act(rt: &impl Print, before: Network, line: Line) -> Result<Network> {
+    let first = if line.0.contains(&b' ') {
+        line.word(0)
+    } else {
+        &[]
+    };
+    match first {
+        b"floor" => turns::floor(rt, line),
+        b"set" => parts::set(rt, before, line),
+        word => match turns::kind(word) {
+            Some(kind) => turns::turn(rt, before, kind, line),
+            None => {
+                rt.write_all(line.0)?;
+                println!(rt; "")?;
+                Ok(before)
+            }
+        },
     }
-    if words::begins(text, b"set ") {
-        let after = parts::set(before, text);
-        turns::show(rt, text, after)?;
-        return Ok(after);
-    }
-    if turns::is_event(text) {
-        return turns::turn(rt, before, text);
-    }
-    line::say(rt, text)?;
-    Ok(before)
 }
 
 // The lines in order, each on the record that the one before left. At first it is the one of a refused set-up.
 fn run(rt: &impl Print, text: &[u8]) -> Result<()> {
-    let s = floor_link::set_up(0, 0, 0);
-    let mut n = s.network;
-    let mut at: usize = 0;
-    while at < text.len() {
-        let end = words::end_of_line(text, at);
-        n = act(rt, n, &text[at..end])?;
-        at = words::next_line(text, at, end);
+    let mut n = floor_link::set_up(0, 0, 0).network;
+    for line in text.split_inclusive(|x| *x == b'\n') {
+        n = act(rt, n, Line(line.strip_suffix(b"\n").unwrap_or(line)))?;
     }
     Ok(())
 }

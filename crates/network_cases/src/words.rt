@@ -1,93 +1,51 @@
-// What a line of input says: its first word, and its fields, which single blanks part.
-ghost use Rattle.std.specs.Prelude.{◌<◌, ◌≤◌, length};
+// What a line of input says: its words, which single blanks part.
+ghost use Rattle.std.specs.Prelude.{◌<◌};
 
-// A field: its number, modulo 65536, and whether it is one. `-` and a missing field are none.
 #[derive(Clone, Copy)]
-pub struct Field {
-    pub given: bool,
-    pub value: u16,
-}
+pub struct Line<'a>(pub &'a [u8]);
 
-// Where the line ends that starts at `at`: the place of its 0A, or of the end of the text.
-pub fn end_of_line(text: &[u8], at: usize) -> usize
-    requires { at ≤ length text.now }
-    ensures { (at ≤ result) × (result ≤ length text.now) }
-{
-    let mut i = at;
-    while i < text.len() {
-        if text[i] == b'\n' {
-            return i;
+impl<'a> Line<'a> {
+    // Word k of the line, counted from 0; a missing one is empty.
+    pub fn word(self, k: usize) -> &'a [u8] {
+        self.0.split(|x| *x == b' ').nth(k).unwrap_or(&[])
+    }
+
+    // The number that word k is, modulo 65536; an octet that is no digit is passed over. `-` and a missing word are none.
+    pub fn field(self, k: usize) -> Option<u16> {
+        let mut n = None;
+        for octet in self.word(k) {
+            if octet.is_ascii_digit() {
+                let more = n.unwrap_or(0) as u32 * 10 + (*octet - b'0') as u32;
+                n = Some((more % 65536) as u16);
+            }
         }
-        i += 1;
+        n
     }
-    i
-}
 
-// Where the line after it starts: behind the 0A, or at the end of the text.
-pub fn next_line(text: &[u8], at: usize, end: usize) -> usize
-    requires { (at < length text.now) × (at ≤ end) × (end ≤ length text.now) }
-    ensures { (at < result) × (result ≤ length text.now) }
-{
-    if end < text.len() {
-        return end + 1;
+    // The same, with 0 for none.
+    pub fn number(self, k: usize) -> u16 {
+        self.field(k).unwrap_or(0)
     }
-    end
-}
 
-// Whether the line has `word` at its front.
-pub fn begins(line: &[u8], word: &[u8]) -> bool {
-    if line.len() < word.len() {
-        return false;
+    // That number modulo 256.
+    pub fn octet(self, k: usize) -> u8 {
+        (self.number(k) % 256) as u8
     }
-    for i in 0..word.len() {
-        if line[i] != word[i] {
-            return false;
-        }
-    }
-    true
-}
 
-// A number with one more digit at its end. Another octet than a digit is passed over.
-fn with_digit(n: Field, octet: u8) -> Field {
-    if octet < b'0' || b'9' < octet {
-        return n;
+    // That number as a place among `places`.
+    pub fn place(self, k: usize, places: usize) -> usize
+        requires { 0 < places }
+        ensures { result < places }
+    {
+        self.number(k) as usize % places
     }
-    let more = (n.value as u64) * 10 + (octet - b'0') as u64;
-    Field {
-        given: true,
-        value: (more % 65536) as u16,
-    }
-}
 
-// Field k of the line, counted from 0.
-pub fn field_at(line: &[u8], k: usize) -> Field {
-    let mut left = k;
-    let mut n = Field {
-        given: false,
-        value: 0,
-    };
-    for i in 0..line.len() {
-        let octet = line[i];
-        if octet == b' ' {
-            left = std::num::wrapping_sub_usize(left, 1);
-        } else if left == 0 {
-            n = with_digit(n, octet);
-        }
+    // The station of the number s at word k: 02 00 00 00 and s in two octets; 03 in front for a number from 1000 on, which makes it a
+    // group's.
+    pub fn station(self, k: usize) -> [u8; 6] {
+        let s = self.number(k);
+        let [high, low] = s.to_be_bytes();
+        let front = if s < 1000 { 2 } else { 3 };
+        [front, 0, 0, 0, high, low]
     }
-    n
-}
-
-pub fn number(line: &[u8], k: usize) -> u16 {
-    let n = field_at(line, k);
-    n.value
-}
-
-// The station of number s: 02 00 00 00 and s in two octets; 03 in front for a number from 1000 on, which makes it a group's.
-pub fn station(s: u16) -> [u8; 6] {
-    let high = (s / 256) as u8;
-    let low = (s % 256) as u8;
-    if s < 1000 {
-        return [2, 0, 0, 0, high, low];
-    }
-    [3, 0, 0, 0, high, low]
 }

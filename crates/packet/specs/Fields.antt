@@ -1,5 +1,7 @@
 -- A packet in numbers, its context included.
-use Rattle.std.specs.Prelude.{ℕ, List, []}
+use Rattle.std.specs.Prelude.{◌≡◌, ℕ, ◌<◌, List, [], Result, MatchResult}
+use Rattle.answers.specs.declared.Refusal.{Refusal}
+use Rattle.answers.specs.declared.Refusal.TheVariants.{UnknownCommand}
 use Rattle.packet.specs.declared.Command.{Command}
 use Rattle.packet.specs.declared.Command.TheVariants.{AddNotify, MoveNotify, MoveResponse}
 use Rattle.packet.specs.declared.Packet.{Packet}
@@ -9,6 +11,10 @@ abbrev pub octet_of : Command → ℕ
 octet_of AddNotify = 0
 octet_of MoveNotify = 1
 octet_of MoveResponse = 2
+
+-- the command of an octet, or 3: "Command above 02"
+abbrev pub Names : ℕ → Result Command Refusal → Type 0
+Names n r = MatchResult r (λ c. octet_of c ≡ n) (λ e. (e ≡ UnknownCommand) × (2 < n))
 
 pub record Fields : Type 0 where
   pub command : ℕ

@@ -3,7 +3,6 @@
 // numbers are decimal.
 #![tactic(auto)]
 
-mod line;
 mod reads;
 mod refusals;
 mod round_trip;
@@ -12,29 +11,11 @@ mod writes;
 use std::io::Result;
 
 fn main(rt: HostRuntime) -> Result<()> {
-    line::say(
-        &rt,
-        b"READ: ANSWER COMMAND IDENTIFIER STATUS STATION SEQUENCE START LEN CONTEXT",
-    )?;
-    reads::marked(&rt)?;
-    reads::fields(&rt)?;
-    reads::contexts(&rt)?;
-    refusals::header(&rt)?;
-    refusals::short_length(&rt)?;
-    refusals::length(&rt)?;
-    refusals::address_length(&rt)?;
-    refusals::sequence(&rt)?;
-    refusals::status(&rt)?;
-    refusals::context(&rt)?;
-    refusals::order(&rt)?;
-    line::say(&rt, b"WRITE: ANSWER LENGTH BUFFER (EE before the call)")?;
-    writes::marked(&rt)?;
-    writes::fields(&rt)?;
-    writes::contexts(&rt)?;
-    writes::sequence(&rt)?;
-    writes::status(&rt)?;
-    writes::buffers(&rt)?;
-    writes::order(&rt)?;
-    line::say(&rt, b"READ, THEN WRITTEN: the columns as above")?;
+    println!(rt; "READ: ANSWER COMMAND IDENTIFIER STATUS STATION SEQUENCE START LEN CONTEXT")?;
+    reads::all(&rt)?;
+    refusals::all(&rt)?;
+    println!(rt; "WRITE: ANSWER LENGTH BUFFER (EE before the call)")?;
+    writes::all(&rt)?;
+    println!(rt; "READ, THEN WRITTEN: the columns as above")?;
     round_trip::all(&rt)
 }

@@ -9,6 +9,7 @@ use borrow.Author.Tests.{ne_eqb, eqb-true, eqb-false}
 use lib.ListN.{length, take, drop, length-append}
 use lib.Seq.{take-append_seam}
 use Rattle.lists.proofs.Fronts.{exact_ind}
+use Rattle.lists.proofs.Tables.{tests}
 use Rattle.packet.specs.Octets.{be16}
 use Rattle.packet.specs.Layout.{is_add, is_response, data_in, context_length_in}
 use Rattle.packet.specs.Fields.{Fields}
@@ -82,11 +83,7 @@ move_context c t i n s q y x z h =
 
 -- a status that only a MOVE-response has
 own_status : (c t : ℕ) → ((c ≡ 2 → ⊥) → t ≡ 0) → cond (is_response c) t 0 ≡ t
-own_status c t h = go (is_response c) refl
-  where
-    go : (b : Bool) → is_response c ≡ b → cond b t 0 ≡ t
-    go true e = refl
-    go false e = sym (h (eqb-false c 2 e))
+own_status c t h = grind (arith, tests)
 
 -- Reading what was written gives the same fields ..
 pub read_octets : (f : Fields) (z : List ℕ) → Writable f → read_of (octets_of f ++ z) ≡ reading_as f

@@ -6,9 +6,12 @@ use mathlib.Core.List.{List, [], ◌∷◌, ◌++◌}
 use mathlib.Core.Bool.{Bool, true, false, cond}
 use native.Mathlib.Omega.{arith}
 use borrow.Author.Tests.{ne_eqb, eqb-true, eqb-false}
-use lib.ListN.{length, get_or, take, drop, set, length-take, length-drop}
+use lib.ListN.{length, get_or, take, drop, set}
 use lib.Seq.{length-take-le, take-append-add, get_or-drop, get_or-take, set-get_or}
+use Rattle.lists.proofs.Choices.{by_bool}
 use Rattle.lists.proofs.Fronts.{front_ind}
+use Rattle.lists.proofs.Tables.{tests}
+use Rattle.std.proofs.lemmas.Grind.{common_steps}
 use Rattle.packet.specs.Octets.{be16, Octets}
 use Rattle.packet.specs.Layout.{version_in, command_in, identifier_in, length_in, data_in, is_add, is_response, address_length_in, status_in, station_in, sequence_in, context_length_in}
 use Rattle.reader.specs.Read.{read_of, context_of}
@@ -61,13 +64,10 @@ move_back c t s h =
 -- octet 7 of a MOVE, set to its status t: as it was in a MOVE-response, 0 in a MOVE-notify
 status_set : (c n : ℕ) (s : List ℕ) → 18 ≤ n
     → set (take n s) 7 (status_in c (data_in s)) ≡ cond (is_response c) (take n s) (set (take n s) 7 0)
-status_set c n s h = go (is_response c)
-  where
-    go : (b : Bool) → set (take n s) 7 (cond b (get_or (data_in s) 1 0) 0) ≡ cond b (take n s) (set (take n s) 7 0)
-    go true =
-        let t : get_or (data_in s) 1 0 ≡ get_or (take n s) 7 0 = get_or-drop 6 s 1 0 ∙ sym (get_or-take n s 7 0 (omega arith)) in
-        rw t (set-get_or (take n s) 7 0)
-    go false = refl
+status_set c n s h =
+    let t : get_or (data_in s) 1 0 ≡ get_or (take n s) 7 0 = get_or-drop 6 s 1 0 ∙ sym (get_or-take n s 7 0 (omega arith)) in
+    by_bool (λ b. set (take n s) 7 (cond b (get_or (data_in s) 1 0) 0) ≡ cond b (take n s) (set (take n s) 7 0)) (is_response c)
+    (λ e. rw t (set-get_or (take n s) 7 0)) (λ e. refl)
 
 -- the octets of the fields read
 octets_back : (s : List ℕ) → Octets s → PacketOk s → octets_of (fields_of_octets s) ≡ restored s
@@ -88,15 +88,7 @@ octets_back s g h = go (is_add (command_in s)) refl
 -- their size is the packet's Length
 size_back : (s : List ℕ) → PacketOk s → size_for (fields_of_octets s) ≡ length_in s
 unfolding context_of
-size_back s h = go (is_add (command_in s)) refl
-  where
-    go : (b : Bool) → is_add (command_in s) ≡ b → size_for (fields_of_octets s) ≡ length_in s
-    go true e = rw (packet_taken s h, e) (sym (h.header.add (eqb-true (command_in s) 0 e)))
-    go false e =
-        let c = eqb-false (command_in s) 0 e in
-        let k : length (take (context_length_in (data_in s)) (drop 18 s)) ≡ context_length_in (data_in s) =
-        length-take-le (context_length_in (data_in s)) (drop 18 s) (omega (arith, length-drop 18 s, h.body.size c, h.header.whole)) in
-        rw (packet_taken s h, e, k) (sym (h.body.size c))
+size_back s h = rw (packet_taken s h) (grind (arith, tests, common_steps))
 
 -- the writer accepts them where there is room
 fields_accepted : (s : List ℕ) (n : ℕ) → PacketOk s → length_in s ≤ n → Accepts (fields_of_octets s) n
@@ -105,13 +97,9 @@ fields_accepted s n h r =
     record {
       sequence = rw (packet_taken s h) h.body.sequence;
       status = rw (packet_taken s h) h.body.status;
-      context = rw (packet_taken s h) (go (is_add (command_in s)) refl);
+      context = rw (packet_taken s h) (grind (arith, tests, common_steps));
       room = rw (size_back s h) r;
     }
-  where
-    go : (b : Bool) → is_add (command_in s) ≡ b → length (take (cond b 0 (context_length_in (data_in s))) (drop (cond b 0 18) s)) ≤ 64
-    go true e = omega arith
-    go false e = omega (arith, length-take (context_length_in (data_in s)) (drop 18 s), h.body.context (eqb-false (command_in s) 0 e))
 
 -- "each accepted packet is written back the same but for padding and the reserved octet": the first Length octets, and
 -- octet 7 zero but in a MOVE-response; what lay in the buffer after them stays

@@ -3,18 +3,15 @@
 use Prim.Native.Nat.{ℕ, ◌≤◌}
 use mathlib.Core.Path.{◌≡◌, refl}
 use mathlib.Core.List.{List, ◌++◌}
-use mathlib.Core.Bool.{Bool, true, false, cond}
 use native.Mathlib.Omega.{arith}
-use borrow.Author.Tests.{le-ltb, ltb-false, eqb-false}
 use lib.ListN.{length, drop}
-use Rattle.lists.specs.Table.{first_of, accepts}
-use Rattle.lists.proofs.Tables.{none_pass, accepted}
+use Rattle.lists.proofs.Tables.{tests}
 use Rattle.packet.specs.Fields.{Fields, fields_of, fields_as}
 use Rattle.packet.specs.declared.Command.{Command}
 use Rattle.packet.specs.declared.Command.TheVariants.{AddNotify, MoveNotify, MoveResponse}
 use Rattle.packet.specs.declared.Packet.{Packet}
 use Rattle.reader.specs.Read.{read_of, context_of}
-use Rattle.writer.specs.Write.{Writing, size_for, octets_of, writer_tests, write_to}
+use Rattle.writer.specs.Write.{size_for, octets_of, writer_tests, write_to}
 use Rattle.packet_laws.specs.RoundTrip.{Writable, reading_as}
 use Rattle.packet_laws.proofs.RoundTrip.{read_octets, context_octets_lem}
 
@@ -25,39 +22,17 @@ pub record Accepts (f : Fields) (n : ℕ) : Type 0 where
   pub context : length f.context ≤ 64
   pub room : size_for f ≤ n
 
-accepts_ok : (f : Fields) (n : ℕ) → accepts (first_of (writer_tests f n)) ≡ true → Accepts f n
-unfolding writer_tests
-accepts_ok f n e =
-    let p = none_pass (writer_tests f n) tt e in
-    record {
-      sequence = ltb-false 4095 f.sequence p.0;
-      status = ltb-false 1 f.status p.1.0;
-      context = ltb-false 64 (length f.context) p.1.1.0;
-      room = ltb-false n (size_for f) p.1.1.1.0;
-    }
-
-accepts_passes : (f : Fields) (n : ℕ) → Accepts f n → first_of (writer_tests f n) ≡ 0
-unfolding writer_tests
-accepts_passes f n h =
-    accepted (writer_tests f n)
-    (le-ltb 4095 f.sequence h.sequence, (le-ltb 1 f.status h.status, (le-ltb 64 (length f.context) h.context, (le-ltb n (size_for f) h.room, tt))))
-
 -- what an accepted write leaves
 pub written : (f : Fields) (b : List ℕ) → Accepts f (length b)
     → write_to f b ≡ record { answer = 0; len = size_for f; buffer = octets_of f ++ drop (size_for f) b }
-unfolding write_to
-written f b h = rw (accepts_passes f (length b) h)
+unfolding write_to writer_tests
+written f b h = grind (arith, tests)
 
 -- an answer of 0 is an accepted write
 pub write_accepted : (f : Fields) (b : List ℕ) → (write_to f b).answer ≡ 0 → Accepts f (length b)
-unfolding write_to
-write_accepted f b = go (accepts (first_of (writer_tests f (length b)))) refl
-  where
-    go : (t : Bool) → accepts (first_of (writer_tests f (length b))) ≡ t
-        → (cond {A = Writing} t (record { answer = 0; len = size_for f; buffer = octets_of f ++ drop (size_for f) b }) (record { answer = first_of (writer_tests f (length b)); len = 0; buffer = b })).answer ≡ 0
-        → Accepts f (length b)
-    go true p e = accepts_ok f (length b) p
-    go false p e = absurd (eqb-false (first_of (writer_tests f (length b))) 0 p e)
+unfolding write_to writer_tests
+write_accepted f b e =
+    record { sequence = grind (arith, tests); status = grind (arith, tests); context = grind (arith, tests); room = grind (arith, tests) }
 
 -- a packet's fields that the writer accepts are writable
 pub fields_writable : (k : Command) (p : Packet) (x : List ℕ) (n : ℕ) → length p.station ≡ 6 → Accepts (fields_as k p x) n → Writable (fields_as k p x)

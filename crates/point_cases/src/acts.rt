@@ -1,96 +1,75 @@
 // A join, a leave and a tick at a lone AP, each made only where 14 does not apply to its record.
+ghost use Rattle.std.specs.Prelude.{IfSome};
+ghost use Rattle.excerpt.specs.Excerpts.{Seen};
+
 use crate::records;
 use access_point::Ticking;
-use answers::Answer;
-use joining::{Notice, Old};
-use record::{AccessPoint, LoneAccessPoint};
+use answers::Refusal;
+use excerpt::Excerpt;
+use joining::{Notice, Request};
+use record::{LoneAccessPoint, Setup};
 
-// What a join answers, the record after it, and what it sends.
-#[derive(Clone, Copy)]
-pub struct Tried {
-    pub point: AccessPoint,
-    pub answer: Answer,
-    pub notice: Notice,
-}
-
-fn no_join(a: AccessPoint, answer: Answer) -> Tried {
-    Tried {
-        point: a,
-        answer,
-        notice: Notice::Silent,
+// What the record holds for one station, where 14 does not apply to it.
+#[tactic(auto, using(record::proofs::ValidLaws::valid_says, record::proofs::Sizes::fits))]
+fn seen(l: LoneAccessPoint, station: [u8; 6]) -> Option<Excerpt>
+    ensures { IfSome result (Seen station l.point) }
+{
+    if access_point::valid(l.point, l.ap_count) {
+        Some(excerpt::of(l.point, station))
+    } else {
+        None
     }
 }
 
+// The record after a join, and what is sent.
 pub fn join(
     l: LoneAccessPoint,
-    station: [u8; 6],
-    sequence: u16,
-    old: Old,
+    request: Request,
     context: &[u8],
-) -> Tried {
-    let a = l.point;
-    if !access_point::valid(a, l.ap_count) {
-        return no_join(a, Answer::InvalidRecord);
-    }
+) -> Result<(LoneAccessPoint, Notice), Refusal> {
     if 64 < context.len() {
-        return no_join(a, Answer::WrongContext);
+        return Err(Refusal::WrongContext);
     }
-    let x = excerpt::of(a, station);
-    let j = joining::join(
-        x,
-        l.number,
-        l.ap_count,
-        l.timeout,
-        l.resend_limit,
-        station,
-        sequence,
-        old,
-        context,
-    );
-    let answer = j.answer;
-    let after = j.after;
-    let notice = j.notice;
-    Tried {
-        point: excerpt::put_back(a, after),
-        answer,
-        notice,
+    let x = seen(l, request.station).ok_or(Refusal::InvalidRecord)?;
+    let setup = Setup {
+        ap_count: l.ap_count,
+        timeout: l.timeout,
+        resend_limit: l.resend_limit,
+    };
+    let joined = joining::join(x, l.number, setup, request, context)?;
+    let point = excerpt::put_back(l.point, joined.after);
+    Ok((LoneAccessPoint { point, ..l }, joined.notice))
+}
+
+// The record after a join, as it was where the join is refused.
+pub fn joined(l: LoneAccessPoint, request: Request, context: &[u8]) -> LoneAccessPoint {
+    match join(l, request, context) {
+        Ok((next, _)) => next,
+        Err(_) => l,
     }
 }
 
-// The record after a join of station k.
-pub fn joined(
-    l: LoneAccessPoint,
-    k: u8,
-    sequence: u16,
-    old: Old,
-    context: &[u8],
-) -> LoneAccessPoint {
-    let j = join(l, records::station(k), sequence, old, context);
-    let a = j.point;
-    records::with_point(l, a)
+// A row of station 1 with the number `moved` and the context AB, and its move from AP 0 open: the row was numbered `before` and came
+// from nowhere.
+pub fn moving(before: u16, moved: u16) -> LoneAccessPoint {
+    let l = joined(records::new(), records::request(1, before, None), b"\xAB");
+    joined(l, records::request(1, moved, Some(0)), b"")
 }
 
 // The record after station k left.
 pub fn left(l: LoneAccessPoint, k: u8) -> LoneAccessPoint {
-    let a = l.point;
-    if !access_point::valid(a, l.ap_count) {
+    let Some(x) = seen(l, records::station(k)) else {
         return l;
-    }
-    let x = excerpt::of(a, records::station(k));
-    let y = receiving::leave(x);
-    let b = excerpt::put_back(a, y);
-    records::with_point(l, b)
+    };
+    let point = excerpt::put_back(l.point, receiving::leave(x));
+    LoneAccessPoint { point, ..l }
 }
 
-pub fn tick(l: LoneAccessPoint) -> Ticking {
-    let a = l.point;
-    if !access_point::valid(a, l.ap_count) {
-        let due = moves::none();
-        return Ticking {
-            point: a,
-            due,
-            given_up: 255,
-        };
+#[tactic(auto, using(record::proofs::ValidLaws::valid_says))]
+pub fn tick(l: LoneAccessPoint) -> Option<Ticking> {
+    if access_point::valid(l.point, l.ap_count) {
+        Some(access_point::tick(l.point, l.timeout))
+    } else {
+        None
     }
-    access_point::tick(a, l.timeout)
 }

@@ -5,97 +5,32 @@
 mod acts;
 mod broken;
 mod joins;
-mod line;
 mod notices;
 mod records;
 mod refusals;
 mod responses;
-mod same;
 mod show;
 mod ticks;
 
 use std::io::Result;
 
-fn columns(rt: &impl Print) -> Result<()> {
-    line::say(
-        rt,
-        b"OUTSIDE BYTES: ANSWER LENGTH BUFFER (EE before the call)",
-    )?;
-    line::say(
-        rt,
-        b"JOIN: ANSWER, then nothing, ADD-notify IDENTIFIER or MOVE-notify IDENTIFIER OLD",
-    )?;
-    line::say(
-        rt,
-        b"TICK: RESENT GIVENUP, then again and the move as it is after the tick",
-    )?;
-    line::say(
-        rt,
-        b"RECORD: ROWS MOVES NEXT OPENED RESENT ANSWERED GIVENUP, unused rows and moves that are not blank",
-    )?;
-    line::say(rt, b"row: STATION SEQUENCE CONTEXTLENGTH CONTEXT")?;
-    line::say(rt, b"move: STATION SEQUENCE OLD IDENTIFIER TICKS RESENDS")
-}
-
-fn show_joins(rt: &impl Print) -> Result<()> {
-    joins::first(rt)?;
-    joins::again(rt)?;
-    joins::not_newer(rt)?;
-    joins::rows(rt)?;
-    joins::moves(rt)
-}
-
-fn show_receiving(rt: &impl Print) -> Result<()> {
-    notices::add(rt)?;
-    notices::add_wrap(rt)?;
-    notices::newer(rt)?;
-    notices::stale(rt)?;
-    notices::own_context(rt)?;
-    notices::row_goes(rt)?;
-    responses::successful(rt)?;
-    responses::stale(rt)?;
-    responses::no_match(rt)?;
-    responses::no_match_stale(rt)?;
-    responses::row_newer(rt)?;
-    responses::row_gone(rt)?;
-    responses::equal_moves(rt)
-}
-
-fn show_ticks(rt: &impl Print) -> Result<()> {
-    ticks::resends(rt)?;
-    ticks::no_resends(rt)?;
-    ticks::one_tick(rt)?;
-    ticks::several(rt)?;
-    ticks::mixed(rt)?;
-    ticks::wraps(rt)?;
-    ticks::wraps_of_ticks(rt)
-}
-
-fn show_refusals(rt: &impl Print) -> Result<()> {
-    refusals::header(rt)?;
-    refusals::data(rt)?;
-    refusals::contexts(rt)?;
-    refusals::ignored(rt)?;
-    refusals::sender(rt)?;
-    refusals::sender_first(rt)?;
-    refusals::floors(rt)?;
-    refusals::buffer(rt)?;
-    refusals::bare_answers(rt)?;
-    refusals::no_buffer(rt)?;
-    refusals::long_answers(rt)?;
-    broken::lengths(rt)?;
-    broken::rows(rt)?;
-    broken::stations(rt)?;
-    broken::moves(rt)?;
-    broken::setups(rt)?;
-    broken::order(rt)?;
-    broken::slack(rt)
-}
+const COLUMNS: [&str; 6] = [
+    "OUTSIDE BYTES: ANSWER LENGTH BUFFER (EE before the call)",
+    "JOIN: ANSWER, then nothing, ADD-notify IDENTIFIER or MOVE-notify IDENTIFIER OLD",
+    "TICK: RESENT GIVENUP, then again and the move as it is after the tick",
+    "RECORD: ROWS MOVES NEXT OPENED RESENT ANSWERED GIVENUP, unused rows and moves that are not blank",
+    "row: STATION SEQUENCE CONTEXTLENGTH CONTEXT",
+    "move: STATION SEQUENCE OLD IDENTIFIER TICKS RESENDS",
+];
 
 fn main(rt: HostRuntime) -> Result<()> {
-    columns(&rt)?;
-    show_joins(&rt)?;
-    show_receiving(&rt)?;
-    show_ticks(&rt)?;
-    show_refusals(&rt)
+    for line in COLUMNS {
+        println!(rt; "{line}")?;
+    }
+    joins::all(&rt)?;
+    notices::all(&rt)?;
+    responses::all(&rt)?;
+    ticks::all(&rt)?;
+    refusals::all(&rt)?;
+    broken::all(&rt)
 }

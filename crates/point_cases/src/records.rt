@@ -1,38 +1,41 @@
 // Records to start from: a new one, and one with some part of it put in place by hand.
-ghost use Rattle.std.specs.Prelude.{◌<◌};
+ghost use Rattle.std.specs.Prelude.{◌<◌, ◌≤◌, length};
 
 use elements::{Association, Move};
+use joining::Request;
 use record::{AccessPoint, Associations, LoneAccessPoint, Moves};
 
-// A record just set up: no rows, no moves, next identifier 0 and all counts 0.
-pub fn new_lone(number: u8, ap_count: u8, timeout: u16, resend_limit: u8) -> LoneAccessPoint {
-    let b = associations::blank();
-    let table = Associations {
-        items: [b; 16],
-        count: 0,
-    };
-    let open = moves::none();
-    let point = AccessPoint {
-        associations: table,
-        moves: open,
-        next_identifier: 0,
-        opened: 0,
-        resent: 0,
-        answered: 0,
-        given_up: 0,
-    };
+// AP 1 of a floor of 3, with T = 2 and R = 1, just set up: no rows, no moves, next identifier 0 and all counts 0. Most cases start
+// here.
+pub fn new() -> LoneAccessPoint {
+    let blank = associations::blank();
     LoneAccessPoint {
-        point,
-        number,
-        ap_count,
-        timeout,
-        resend_limit,
+        point: AccessPoint {
+            associations: Associations {
+                items: [blank; 16],
+                count: 0,
+            },
+            moves: moves::none(),
+            next_identifier: 0,
+            opened: 0,
+            resent: 0,
+            answered: 0,
+            given_up: 0,
+        },
+        number: 1,
+        ap_count: 3,
+        timeout: 2,
+        resend_limit: 1,
     }
 }
 
-// AP 1 of a floor of 3, with T = 2 and R = 1: where most cases start.
-pub fn new() -> LoneAccessPoint {
-    new_lone(1, 3, 2, 1)
+// The only AP of its floor.
+pub fn alone() -> LoneAccessPoint {
+    LoneAccessPoint {
+        number: 0,
+        ap_count: 1,
+        ..new()
+    }
 }
 
 // The station 02 00 00 00 00 and k.
@@ -40,9 +43,18 @@ pub fn station(k: u8) -> [u8; 6] {
     [2, 0, 0, 0, 0, k]
 }
 
+// A join of station k.
+pub fn request(k: u8, sequence: u16, old: Option<u16>) -> Request {
+    Request {
+        station: [2, 0, 0, 0, 0, k],
+        sequence,
+        old,
+    }
+}
+
 // A row of station k with the context C1 C2.
 pub fn row(k: u8, sequence: u16) -> Association {
-    let mut context = [0u8; 64];
+    let mut context = [0; 64];
     context[0] = 0xC1;
     context[1] = 0xC2;
     Association {
@@ -65,110 +77,74 @@ pub fn opened(k: u8, sequence: u16, identifier: u16, ticks_left: u16, resends_le
     }
 }
 
-pub fn with_point(l: LoneAccessPoint, point: AccessPoint) -> LoneAccessPoint {
-    let mut next = l;
-    next.point = point;
-    next
-}
-
-fn with_table(l: LoneAccessPoint, table: Associations) -> LoneAccessPoint {
-    let mut a = l.point;
-    a.associations = table;
-    with_point(l, a)
-}
-
-fn with_moves(l: LoneAccessPoint, open: Moves) -> LoneAccessPoint {
-    let mut a = l.point;
-    a.moves = open;
-    with_point(l, a)
-}
-
 // Row i put in place; the number of rows stays.
 pub fn set_row(l: LoneAccessPoint, i: usize, x: Association) -> LoneAccessPoint
     requires { i < 16 }
 {
-    let a = l.point;
-    let mut t = a.associations;
-    t.items[i] = x;
-    with_table(l, t)
+    let mut next = l;
+    next.point.associations.items[i] = x;
+    next
 }
 
 // Move i put in place; the number of moves stays.
 pub fn set_move(l: LoneAccessPoint, i: usize, x: Move) -> LoneAccessPoint
     requires { i < 8 }
 {
-    let a = l.point;
-    let mut t = a.moves;
-    t.items[i] = x;
-    with_moves(l, t)
+    let mut next = l;
+    next.point.moves.items[i] = x;
+    next
 }
 
 // The numbers of rows and moves put in place.
 pub fn set_used(l: LoneAccessPoint, rows: usize, open: usize) -> LoneAccessPoint {
-    let a = l.point;
-    let mut t = a.associations;
-    t.count = rows;
-    let mut m = a.moves;
-    m.count = open;
-    let b = with_table(l, t);
-    with_moves(b, m)
+    let mut next = l;
+    next.point.associations.count = rows;
+    next.point.moves.count = open;
+    next
 }
 
 // The next identifier and the four counts put in place.
 pub fn set_numbers(l: LoneAccessPoint, next_identifier: u16, counts: u32) -> LoneAccessPoint {
-    let mut a = l.point;
-    a.next_identifier = next_identifier;
-    a.opened = counts;
-    a.resent = counts;
-    a.answered = counts;
-    a.given_up = counts;
-    with_point(l, a)
+    let point = AccessPoint {
+        next_identifier,
+        opened: counts,
+        resent: counts,
+        answered: counts,
+        given_up: counts,
+        ..l.point
+    };
+    LoneAccessPoint { point, ..l }
 }
 
-// Own number, AP count, T and R put in place.
-pub fn set_up(
-    l: LoneAccessPoint,
-    number: u8,
-    ap_count: u8,
-    timeout: u16,
-    resend_limit: u8,
-) -> LoneAccessPoint {
+// Rows and moves put in place from the first on, and their numbers.
+pub fn filled(l: LoneAccessPoint, rows: &[Association], moves: &[Move]) -> LoneAccessPoint
+    requires rows_bound { length rows.now ≤ 16 }
+    requires moves_bound { length moves.now ≤ 8 }
+{
     let mut next = l;
-    next.number = number;
-    next.ap_count = ap_count;
-    next.timeout = timeout;
-    next.resend_limit = resend_limit;
-    next
+    next.point.associations.items[..rows.len()].copy_from_slice(rows);
+    next.point.moves.items[..moves.len()].copy_from_slice(moves);
+    set_used(next, rows.len(), moves.len())
 }
 
 // Three rows, of stations 1 to 3 with the numbers 10, 20 and 30, and two open moves, of stations 1 and 2.
 pub fn some() -> LoneAccessPoint {
-    let mut l = set_used(new(), 3, 2);
-    l = set_row(l, 0, row(1, 10));
-    l = set_row(l, 1, row(2, 20));
-    l = set_row(l, 2, row(3, 30));
-    l = set_move(l, 0, opened(1, 10, 5, 2, 1));
-    set_move(l, 1, opened(2, 20, 6, 1, 0))
+    filled(
+        new(),
+        &[row(1, 10), row(2, 20), row(3, 30)],
+        &[opened(1, 10, 5, 2, 1), opened(2, 20, 6, 1, 0)],
+    )
 }
 
 // Every slot full of octets that no used slot may have.
-fn rubbish_rows(l: LoneAccessPoint) -> LoneAccessPoint {
-    let x = Association {
+pub fn rubbish() -> LoneAccessPoint {
+    let row = Association {
         station: [0xFF; 6],
         sequence: 65535,
         context_len: 65535,
         context: [0xAA; 64],
     };
-    let table = Associations {
-        items: [x; 16],
-        count: 0,
-    };
-    with_table(l, table)
-}
-
-// The same of the moves.
-pub fn rubbish(l: LoneAccessPoint) -> LoneAccessPoint {
-    let x = Move {
+    let open = Move {
         station: [0xFF; 6],
         sequence: 65535,
         old: 255,
@@ -176,9 +152,5 @@ pub fn rubbish(l: LoneAccessPoint) -> LoneAccessPoint {
         ticks_left: 0,
         resends_left: 255,
     };
-    let open = Moves {
-        items: [x; 8],
-        count: 0,
-    };
-    with_moves(rubbish_rows(l), open)
+    set_used(filled(new(), &[row; 16], &[open; 8]), 0, 0)
 }

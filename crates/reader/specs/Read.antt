@@ -1,12 +1,11 @@
 -- Document 01, "Packets": what reading a list of octets gives.
-use Rattle.std.specs.Prelude.{ℕ, List, [], ◌∷◌, cond, take, drop, eqb}
+use Rattle.std.specs.Prelude.{◌≡◌, refl, ℕ, List, [], ◌∷◌, cond, take, drop, Result, Ok, Err}
 use Rattle.lists.specs.Table.{first_of, accepts}
-use Rattle.answers.specs.Numbers.{number_of}
-use Rattle.packet.specs.declared.Command.{Command}
-use Rattle.packet.specs.declared.Command.TheVariants.{AddNotify, MoveNotify, MoveResponse}
+use Rattle.answers.specs.declared.Refusal.{Refusal}
+use Rattle.answers.specs.Numbers.{refusal_number}
 use Rattle.packet.specs.Fields.{octet_of}
 use Rattle.packet.specs.Layout.{command_in, identifier_in, data_in, is_add, status_in, station_in, sequence_in, context_length_in, context_start}
-use Rattle.reader.specs.Refusals.{reader_tests}
+use Rattle.reader.specs.Refusals.{head_tests, reader_tests}
 use Rattle.reader.specs.declared.Received.{Received}
 
 -- what the reader answers, in numbers
@@ -20,19 +19,20 @@ pub record Reading : Type 0 where
   pub start : ℕ
   pub len : ℕ
 
--- the numbers of the reader's struct
+-- the numbers of the reader's struct, of an accepted packet
 abbrev pub reading_of : Received → Reading
 reading_of r =
-    record { answer = number_of r.answer; command = octet_of r.command; identifier = r.identifier; status = r.status; station = r.station; sequence = r.sequence; start = r.start; len = r.len }
+    record { answer = 0; command = octet_of r.command; identifier = r.identifier; status = r.status; station = r.station; sequence = r.sequence; start = r.start; len = r.len }
 
 -- "A refusal returns its number, every other number of the answer 0 and any returned part empty"
 abbrev pub refused_by : ℕ → Reading
 refused_by n =
     record { answer = n; command = 0; identifier = 0; status = 0; station = 0 ∷ 0 ∷ 0 ∷ 0 ∷ 0 ∷ 0 ∷ []; sequence = 0; start = 0; len = 0 }
 
--- the command of an octet that is at most 2
-unfoldable pub command_of : ℕ → Command
-command_of n = cond (eqb n 0) AddNotify (cond (eqb n 1) MoveNotify MoveResponse)
+-- the numbers of what the reader answers
+abbrev pub read_as : Result Received Refusal → Reading
+read_as (Ok r) = reading_of r
+read_as (Err e) = refused_by (refusal_number e)
 
 -- r where the tests answer 0, else their refusal
 abbrev pub accept : ℕ → Reading → Reading
@@ -46,6 +46,11 @@ taken c t i d =
 -- what reading the packet s gives
 unfoldable pub read_of : List ℕ → Reading
 read_of s = accept (first_of (reader_tests s)) (taken (command_in s) (status_in (command_in s) (data_in s)) (identifier_in s) (data_in s))
+
+-- a packet of three octets is refused by 1, and every other number is 0
+pub short_refused : read_of (0 ∷ 0 ∷ 9 ∷ []) ≡ record { answer = 1; command = 0; identifier = 0; status = 0; station = 0 ∷ 0 ∷ 0 ∷ 0 ∷ 0 ∷ 0 ∷ []; sequence = 0; start = 0; len = 0 }
+unfolding read_of reader_tests head_tests
+short_refused = refl
 
 -- "the context block comes back as that part of the caller's packet"
 unfoldable pub context_of : List ℕ → List ℕ

@@ -22,7 +22,7 @@ use Rattle.excerpt.specs.declared.Excerpt.{Excerpt}
 use Rattle.excerpt.specs.Excerpts.{with_edit, Allowed, edited, put_back, Seen}
 use Rattle.excerpt.proofs.Laws.{fits, at_is, row_is, moves_is, back}
 use Rattle.moves.specs.Asked.{asked}
-use Rattle.receiving.specs.declared.Reply.{Reply}
+use Rattle.receiving.specs.declared.Reply.TheVariants.{Successful, StaleMove}
 use Rattle.receiving.specs.Receive.{empty_reply, notify_reply, answered_by}
 use Rattle.receiving.proofs.Rules.{left_none, left_gone, leave_is, older_by, stays_answered, filled_answered, gone_answered, response_is, response_none, response_closes}
 
@@ -77,11 +77,14 @@ module _ (s : Station) (a : AccessPoint) (x : Excerpt) (q : Seen s a x) where
   leave_none h =
       kept_as _ (left_none s 0 (get_associations a.associations) x.at (at_is s a x q) q.usable.distinct_stations (none_there h)) ∙ leave_is s a
 
-  pub leave_gone : (y : Excerpt) → y ≡ with_edit Remove x.row x → put_back a y ≡ put_point a (leave_by s (get_point a)).point
-  leave_gone y e =
-      removed_as _ y _ e (left_gone s 0 (get_associations a.associations) x.at (at_is s a x q) q.usable.distinct_stations) ∙ leave_is s a
+  pub leave_gone : (r : Association) (y : Excerpt) → y ≡ with_edit Remove r x → put_back a y ≡ put_point a (leave_by s (get_point a)).point
+  leave_gone r y e =
+      removed_as r y _ e (left_gone s 0 (get_associations a.associations) x.at (at_is s a x q) q.usable.distinct_stations) ∙ leave_is s a
 
-  -- the association is there, and whether its number passes a test
+  -- the association r is there, and whether its number passes a test
+
+  abbrev Held : Association → Type 0
+  Held r = (r ≡ x.row) × (x.at < x.count)
 
   abbrev hit : (ℕ → Bool) → Bool
   hit t = ltb x.at (length (get_associations a.associations)) && t (get_or (get_associations a.associations) x.at no_association).sequence
@@ -89,8 +92,8 @@ module _ (s : Station) (a : AccessPoint) (x : Excerpt) (q : Seen s a x) where
   absent : (t : ℕ → Bool) → x.count ≤ x.at → hit t ≡ false
   absent t h = rw (le-ltb x.at (length (get_associations a.associations)) (none_there h))
 
-  present : (t : ℕ → Bool) (b : Bool) → x.at < x.count → t x.row.sequence ≡ b → hit t ≡ b
-  present t b h g = rw (lt-ltb x.at (length (get_associations a.associations)) (one_there h), ← (row_is s a x q)) g
+  present : (t : ℕ → Bool) (b : Bool) (r : Association) → Held r → t r.sequence ≡ b → hit t ≡ b
+  present t b r h g = rw (lt-ltb x.at (length (get_associations a.associations)) (one_there h.1), ← (row_is s a x q), ← h.0) g
 
   -- a number n, newer than the association's or not
 
@@ -104,29 +107,28 @@ module _ (s : Station) (a : AccessPoint) (x : Excerpt) (q : Seen s a x) where
     pub older_none : x.count ≤ x.at → put_back a x ≡ without_older
     older_none h = kept_as _ (older false (absent (newer_of n) h))
 
-    pub older_stays : x.at < x.count → newer_of n x.row.sequence ≡ false → put_back a x ≡ without_older
-    older_stays h g = kept_as _ (older false (present (newer_of n) false h g))
+    pub older_stays : (r : Association) → Held r → newer_of n r.sequence ≡ false → put_back a x ≡ without_older
+    older_stays r h g = kept_as _ (older false (present (newer_of n) false r h g))
 
-    pub older_gone : (y : Excerpt) → y ≡ with_edit Remove x.row x → x.at < x.count → newer_of n x.row.sequence ≡ true → put_back a y ≡ without_older
-    older_gone y e h g = removed_as _ y _ e (older true (present (newer_of n) true h g))
+    pub older_gone : (r : Association) → Held r → newer_of n r.sequence ≡ true → (y : Excerpt) → y ≡ with_edit Remove r x → put_back a y ≡ without_older
+    older_gone r h g y e = removed_as r y _ e (older true (present (newer_of n) true r h g))
 
-    -- the answer to a MOVE-notify as the code's struct
+    -- the answer to a MOVE-notify as the code's enum
 
-    pub reply_none : (y : Reply) → x.count ≤ x.at → y ≡ empty_reply 0 → y ≡ notify_reply s n (get_associations a.associations)
+    pub reply_none : x.count ≤ x.at → empty_reply ≡ notify_reply s n (get_associations a.associations)
     unfolding notify_reply
-    reply_none y h f = f ∙ sym (rw (← (at_is s a x q), le-ltb x.at (length (get_associations a.associations)) (none_there h)))
+    reply_none h = sym (rw (← (at_is s a x q), le-ltb x.at (length (get_associations a.associations)) (none_there h)))
 
-    pub reply_stays : (y : Reply) → x.at < x.count → newer_of n x.row.sequence ≡ false → y ≡ empty_reply 1 → y ≡ notify_reply s n (get_associations a.associations)
+    pub reply_stays : (r : Association) → Held r → newer_of n r.sequence ≡ false → StaleMove ≡ notify_reply s n (get_associations a.associations)
     unfolding notify_reply
-    reply_stays y h g f = f ∙ sym (rw (← (at_is s a x q), lt-ltb x.at (length (get_associations a.associations)) (one_there h), ← (row_is s a x q), g))
+    reply_stays r h g = sym (rw (← (at_is s a x q), lt-ltb x.at (length (get_associations a.associations)) (one_there h.1), ← (row_is s a x q), ← h.0, g))
 
-    pub reply_gone : x.at < x.count → newer_of n x.row.sequence ≡ true
-        → record { sent = true; status = 0; len = x.row.context_len; context = x.row.context } ≡ notify_reply s n (get_associations a.associations)
+    pub reply_gone : (r : Association) → Held r → newer_of n r.sequence ≡ true → Successful r.context_len r.context ≡ notify_reply s n (get_associations a.associations)
     unfolding notify_reply
-    reply_gone h g = sym (rw (← (at_is s a x q), lt-ltb x.at (length (get_associations a.associations)) (one_there h), ← (row_is s a x q), g))
+    reply_gone r h g = sym (rw (← (at_is s a x q), lt-ltb x.at (length (get_associations a.associations)) (one_there h.1), ← (row_is s a x q), ← h.0, g))
 
-  pub reply_small : x.at < x.count → x.row.context_len ≤ 64
-  reply_small h = rw (row_is s a x q) (context_within (get_associations a.associations) x.at no_association q.usable.limits (one_there h))
+  pub reply_small : (r : Association) → Held r → r.context_len ≤ 64
+  reply_small r h = rw (h.0, row_is s a x q) (context_within (get_associations a.associations) x.at no_association q.usable.limits (one_there h.1))
 
   -- a MOVE-response with number n, status t and context c that closed a move
 
@@ -140,20 +142,20 @@ module _ (s : Station) (a : AccessPoint) (x : Excerpt) (q : Seen s a x) where
     pub answered_none : x.count ≤ x.at → put_back a x ≡ after_answer
     answered_none h = missed (absent (eqb n) h)
 
-    pub answered_other : x.at < x.count → (n ≡ x.row.sequence → ⊥) → put_back a x ≡ after_answer
-    answered_other h g = missed (present (eqb n) false h (ne_eqb _ _ g))
+    pub answered_other : (r : Association) → Held r → (n ≡ r.sequence → ⊥) → put_back a x ≡ after_answer
+    answered_other r h g = missed (present (eqb n) false r h (ne_eqb _ _ g))
 
-    pub answered_filled : (r : Association) (y : Excerpt) → y ≡ with_edit Place r x → r ≡ association x.row.station x.row.sequence (given c)
-        → x.at < x.count → n ≡ x.row.sequence → t ≡ 0 → put_back a y ≡ after_answer
-    answered_filled r y e f h g z =
-        placed_as r y _ e
+    pub answered_filled : (r : Association) → Held r → n ≡ r.sequence → t ≡ 0
+        → (k : Association) (y : Excerpt) → k ≡ association r.station r.sequence (given c) → y ≡ with_edit Place k x → put_back a y ≡ after_answer
+    answered_filled r h g z k y f e =
+        placed_as k y _ e
         (ap (λ (k : Association). placed x.at k (get_associations a.associations)) f
-        ∙ filled_answered s n (get_associations a.associations) x.at (at_is s a x q) t c x.row z q.usable.distinct_stations (present (eqb n) true h (eq-eqb _ _ g)) (row_is s a x q))
+        ∙ filled_answered s n (get_associations a.associations) x.at (at_is s a x q) t c r z q.usable.distinct_stations (present (eqb n) true r h (eq-eqb _ _ g)) (h.0 ∙ row_is s a x q))
 
-    pub answered_gone : (y : Excerpt) → y ≡ with_edit Remove x.row x → x.at < x.count → n ≡ x.row.sequence → (t ≡ 0 → ⊥) → put_back a y ≡ after_answer
-    answered_gone y e h g z =
-        removed_as _ y _ e
-        (gone_answered s n (get_associations a.associations) x.at (at_is s a x q) t c z q.usable.distinct_stations (present (eqb n) true h (eq-eqb _ _ g)))
+    pub answered_gone : (r : Association) → Held r → n ≡ r.sequence → (t ≡ 0 → ⊥) → (y : Excerpt) → y ≡ with_edit Remove r x → put_back a y ≡ after_answer
+    answered_gone r h g z y e =
+        removed_as r y _ e
+        (gone_answered s n (get_associations a.associations) x.at (at_is s a x q) t c z q.usable.distinct_stations (present (eqb n) true r h (eq-eqb _ _ g)))
 
     -- from the AP `from`, with identifier i: j is the place of the move that it closes
 

@@ -1,6 +1,7 @@
 -- The machine's rules for leaving and for a packet received, by the place of the station's association.
 -- Assumes nothing.
-use Rattle.std.proofs.Common.{◌≡◌, ℕ, zero, suc, ◌+◌, ◌%◌, ◌^◌, ◌<◌, ◌≤◌, Bool, true, false, cond, ◌&&◌, eqb, ltb, List, [], length, get_or, sym, refl, ap, ◌∙◌, arith, le-ltb, lt-ltb}
+use Rattle.std.proofs.Common.{◌≡◌, ℕ, zero, suc, ◌+◌, ◌%◌, ◌^◌, ◌<◌, ◌≤◌, Bool, true, false, cond, ◌&&◌, eqb, ltb, List, [], ◌∷◌, length, get_or, sym, refl, ap, ◌∙◌, arith, le-ltb, lt-ltb}
+use Rattle.std.specs.Prelude.{Some}
 use Rattle.lists.specs.Places.{without}
 use Rattle.lists.specs.Search.{index_by, placed}
 use Rattle.lists.proofs.Search.{without_past}
@@ -12,7 +13,7 @@ use Rattle.machine.specs.Associations.{given, association, context_octets, disso
 use Rattle.machine.specs.Packets.{Packet, message_of, packet_of}
 use Rattle.machine.specs.Moves.{agrees, earliest, answering, counts_after, counted}
 use Rattle.machine.specs.AccessPoint as machine
-use Rattle.machine.specs.AccessPoint.{Action, with_associations, with_moves, quietly, leave_by, answering_with, receive_add, receive_notify, receive_response, receive_by, receive}
+use Rattle.machine.specs.AccessPoint.{Action, with_associations, with_moves, quietly, leave_by, answer_to, answering_with, receive_add, receive_notify, receive_response, receive_by, receive}
 use Rattle.machine.specs.Valid.{distinct}
 use Rattle.record.specs.declared.AccessPoint.{AccessPoint}
 use Rattle.record.specs.declared.Moves.{Moves}
@@ -24,7 +25,7 @@ use Rattle.associations.proofs.Laws.{sequence_at, context_at, dissociate_at, old
 use Rattle.moves.specs.Asked.{asked}
 use Rattle.moves.proofs.Laws.{asked_by, earliest_asked, close_asked, earliest_at, close_at}
 use Rattle.receiving.specs.declared.Reply.{Reply}
-use Rattle.receiving.specs.Receive.{replies_of, result_of, handled_by, no_reply, empty_reply, notify_reply, reply_to, answered_by}
+use Rattle.receiving.specs.Receive.{message_in, replies_of, result_of, handled_by, notify_reply, answered_by}
 
 -- one station's association in the list rs: at place i, which is the length where there is none
 
@@ -68,7 +69,7 @@ leave_is s a = refl
 module _ (from : ℕ) (p : Packet) (a : AccessPoint) (d : distinct (get_associations a.associations) ≡ true) where
   pub notify_is : record {
     point = put_point a (with_associations (dissociate_older p.station p.sequence (get_associations a.associations)) (get_point a));
-    sends = replies_of from p (notify_reply p.station p.sequence (get_associations a.associations));
+    sends = answer_to from p (message_in (notify_reply p.station p.sequence (get_associations a.associations))) ∷ [];
   }
       ≡ result_of a (receive_notify from p (get_point a))
   unfolding receive_notify notify_reply context_octets message_of get_point with_associations answering_with
@@ -86,7 +87,7 @@ module _ (from : ℕ) (p : Packet) (a : AccessPoint) (d : distinct (get_associat
       go : (b c : Bool) → ltb i (length rs) ≡ b → newer_of p.sequence r.sequence ≡ c
           → record {
             point = put_point a (with_associations (dissociate_older p.station p.sequence rs) (get_point a));
-            sends = replies_of from p (notify_reply p.station p.sequence rs);
+            sends = answer_to from p (message_in (notify_reply p.station p.sequence rs)) ∷ [];
           }
           ≡ result_of a (receive_notify from p (get_point a))
       go false c h k = rw (sequence_at p.station no_association rs, older_at p.station p.sequence no_association rs d, h)
@@ -147,49 +148,26 @@ unfolding receive_by message_of
 silent_by zero c from p a = response_silent from p (fill p.station p.sequence c a.associations) a
 silent_by (suc t) c from p a = response_silent from p (dissociate_exactly p.station p.sequence a.associations) a
 
--- by command: the answer as the code's struct
-module _ (c : ℕ) (s : List ℕ) (n : ℕ) (rs : List Association) where
-  pub reply_by_0 : c ≡ 0 → no_reply ≡ reply_to c s n rs
-  unfolding reply_to
-  reply_by_0 e = sym (rw e)
+-- by command: the packet that the reading r and the context c are, at the record a, which is then g
 
-  pub reply_by_1 : c ≡ 1 → notify_reply s n rs ≡ reply_to c s n rs
-  unfolding reply_to
-  reply_by_1 e = sym (rw e)
-
-  pub reply_by_2 : c ≡ 2 → no_reply ≡ reply_to c s n rs
-  unfolding reply_to
-  reply_by_2 e = sym (rw e)
-
-pub none_sent : (r : Reply) → r ≡ no_reply → r.sent ≡ false
-none_sent r f = rw f
-
-pub none_small : (r : Reply) → r ≡ no_reply → r.len ≤ 64
-none_small r f = rw f (omega arith)
-
-pub empty_small : (r : Reply) (t : ℕ) → r ≡ empty_reply t → r.len ≤ 64
-empty_small r t f = rw f (omega arith)
-
--- by command: the packet that the reading r and the context c are, at the record a, which is then g, with the answer y
-
-module _ (from : ℕ) (r : Reading) (c : List ℕ) (a g : AccessPoint) (y : Reply) where
-  pub by_add : r.command ≡ 0 → y.sent ≡ false → g ≡ put_point a (with_associations (dissociate_older r.station r.sequence (get_associations a.associations)) (get_point a))
-      → record { point = g; sends = replies_of from (packet_of r c) y } ≡ handled_by from (packet_of r c) a
+module _ (from : ℕ) (r : Reading) (c : List ℕ) (a g : AccessPoint) where
+  pub by_add : r.command ≡ 0 → g ≡ put_point a (with_associations (dissociate_older r.station r.sequence (get_associations a.associations)) (get_point a))
+      → record { point = g; sends = [] } ≡ handled_by from (packet_of r c) a
   unfolding handled_by receive packet_of message_of receive_by receive_add quietly get_point
-  by_add e f h = rw (e, f, h)
+  by_add e h = rw (e, h)
 
-  pub by_notify : distinct (get_associations a.associations) ≡ true → r.command ≡ 1 → y ≡ notify_reply r.station r.sequence (get_associations a.associations)
+  pub by_notify : distinct (get_associations a.associations) ≡ true → r.command ≡ 1
+      → (y : Reply) → y ≡ notify_reply r.station r.sequence (get_associations a.associations)
       → g ≡ put_point a (with_associations (dissociate_older r.station r.sequence (get_associations a.associations)) (get_point a))
-      → record { point = g; sends = replies_of from (packet_of r c) y } ≡ handled_by from (packet_of r c) a
+      → record { point = g; sends = replies_of from (packet_of r c) (Some y) } ≡ handled_by from (packet_of r c) a
   unfolding handled_by receive packet_of message_of receive_by
-  by_notify d e f h =
+  by_notify d e y f h =
       rw (e, f, h) (notify_is from (record { identifier = r.identifier; station = r.station; sequence = r.sequence; message = message_of 1 r.status c }) a d)
 
-  pub by_response : r.command ≡ 2 → y.sent ≡ false
-      → g ≡ put_point a (receive_by (message_of 2 r.status c) from (asked r.identifier r.station r.sequence) (get_point a)).point
-      → record { point = g; sends = replies_of from (packet_of r c) y } ≡ handled_by from (packet_of r c) a
+  pub by_response : r.command ≡ 2 → g ≡ put_point a (receive_by (message_of 2 r.status c) from (asked r.identifier r.station r.sequence) (get_point a)).point
+      → record { point = g; sends = [] } ≡ handled_by from (packet_of r c) a
   unfolding handled_by receive packet_of
-  by_response e f h =
+  by_response e h =
       let p : Packet = record { identifier = r.identifier; station = r.station; sequence = r.sequence; message = message_of 2 r.status c } in
-      rw (e, f, h, same_by r.status c from p (get_point a))
+      rw (e, h, same_by r.status c from p (get_point a))
       (λ k. record { point = put_point a (receive_by (message_of 2 r.status c) from p (get_point a)).point; sends = sym (silent_by r.status c from p (get_point a)) k })

@@ -5,7 +5,7 @@ use elements::{Association, Move};
 
 // Document 01: an AP's table, its rows in order of arrival.
 #[repr(C)]
-#[derive(Clone, Copy)]
+#[derive(Clone, Copy, Debug, PartialEq, Eq)]
 pub struct Associations {
     pub items: [Association; 16],
     pub count: usize,
@@ -13,7 +13,7 @@ pub struct Associations {
 
 // Document 01: an AP's open moves, in order of opening.
 #[repr(C)]
-#[derive(Clone, Copy)]
+#[derive(Clone, Copy, Debug, PartialEq, Eq)]
 pub struct Moves {
     pub items: [Move; 8],
     pub count: usize,
@@ -21,7 +21,7 @@ pub struct Moves {
 
 // Document 01: an access point's record.
 #[repr(C)]
-#[derive(Clone, Copy)]
+#[derive(Clone, Copy, Debug, PartialEq, Eq)]
 pub struct AccessPoint {
     pub associations: Associations,
     pub moves: Moves,
@@ -32,9 +32,17 @@ pub struct AccessPoint {
     pub given_up: u32,
 }
 
+// Document 01's set-up: AP count, T, in ticks, and R.
+#[derive(Clone, Copy, Debug, PartialEq, Eq)]
+pub struct Setup {
+    pub ap_count: u8,
+    pub timeout: u16,
+    pub resend_limit: u8,
+}
+
 // Document 01: one AP alone, "whose record is then held together with its own number, the floor's AP count, T and R".
 #[repr(C)]
-#[derive(Clone, Copy)]
+#[derive(Clone, Copy, Debug, PartialEq, Eq)]
 pub struct LoneAccessPoint {
     pub point: AccessPoint,
     pub number: u8,

@@ -4,7 +4,7 @@ use Prim.Native.Nat.{ℕ, ◌+◌, ◌*◌, ◌-◌, ◌%◌, ◌<◌}
 use mathlib.Core.Path.{◌≡◌, refl, subst}
 use mathlib.Core.Bool.{Bool, true, false, cond, ◌&&◌, ◌||◌}
 use mathlib.Core.List.{List, [], ◌∷◌}
-use mathlib.Core.Option.{Option, none, some}
+use Rattle.std.specs.Prelude.{Option, None, Some}
 use native.Mathlib.Omega.{arith}
 use borrow.Author.Tests.{leb-true, eqb-true}
 use lib.Dec.{eqb, ltb, leb}
@@ -14,7 +14,7 @@ use Rattle.lists.proofs.Choices.{and_left, and_right, by_option}
 use Rattle.lists.proofs.Bools.{by_cond}
 use Rattle.lists.proofs.Every.{all_replicate}
 use Rattle.machine.specs.Stations.{Station}
-use Rattle.machine.specs.Events.{Event, Octet, StationIn, Formed}
+use Rattle.machine.specs.Events.{Octet, StationIn, Formed}
 use Rattle.events.specs.declared.Kind.{Kind}
 use Rattle.events.specs.declared.Kind.TheVariants.{Join, Leave, Deliver, Repeat, Lose, Tick, Who}
 use Rattle.events.specs.Event.{event_as}
@@ -25,16 +25,15 @@ use Rattle.script.specs.Script.{events_in}
 
 -- P of what is there, if it is
 abbrev pub Of : {A : Type 0} → (A → Type 0) → Option A → Type 0
-Of P none = Unit {0}
-Of P (some x) = P x
+Of P None = Unit {0}
+Of P (Some x) = P x
 
 -- a digit is below 16
 hex_small : (x : ℕ) → is_hex x ≡ true → hex_of x < 16
-unfolding is_hex hex_of
 hex_small x h = go (is_digit x) refl h
   where
     go : (b : Bool) → is_digit x ≡ b → b || (leb 97 x && leb x 102) ≡ true → cond b (x - 48) (x - 87) < 16
-    go true e k = unfold is_digit in omega (arith, leb-true x 57 (and_right (leb 48 x) (leb x 57) e))
+    go true e k = omega (arith, leb-true x 57 (and_right (leb 48 x) (leb x 57) e))
     go false e k = omega (arith, leb-true 97 x (and_left _ _ k), leb-true x 102 (and_right (leb 97 x) _ k))
 
 octets_small : (f : List ℕ) → every is_hex f ≡ true → All Octet (octets_in f)

@@ -5,7 +5,7 @@ use Prim.Native.Nat.{ℕ, ◌≤◌, ◌<◌}
 use mathlib.Core.Path.{◌≡◌, refl, sym, ◌∙◌}
 use mathlib.Core.Bool.{Bool, true, false, cond}
 use mathlib.Core.List.{List, [], ◌∷◌, ◌++◌, append_assoc}
-use mathlib.Core.Option.{Option, none, some}
+use Rattle.std.specs.Prelude.{Option, None, Some}
 use native.Mathlib.Omega.{arith}
 use borrow.Author.Tests.{lt-ltb}
 use lib.Dec.{eqb}
@@ -49,8 +49,8 @@ played_pieces w [] ms = refl
 played_pieces w (l ∷ ls) ms = go (event_in l) (λ f. played_pieces f ls ms)
   where
     go : (o : Option Event) → ((f : Network) → run_of f (events_in (ls ++ ms)) ≡ run_of (run_of f (events_in ls)) (events_in ms)) → run_of w (case_option o (events_in (ls ++ ms)) (λ e. e ∷ events_in (ls ++ ms))) ≡ run_of (run_of w (case_option o (events_in ls) (λ e. e ∷ events_in ls))) (events_in ms)
-    go none h = h w
-    go (some e) h = h (event_of w e).network
+    go None h = h w
+    go (Some e) h = h (event_of w e).network
 
 pub printed_pieces : (w : Network) (ls ms : List (List ℕ)) → printed w (ls ++ ms) ≡ printed w ls ++ printed (played w ls) ms
 unfolding printed played events_in run_of
@@ -61,13 +61,13 @@ printed_pieces w (l ∷ ls) ms = go (event_in l) (λ f. printed_pieces f ls ms)
         → case_option o (unreadable ++ printed w (ls ++ ms)) (λ e. result_of e (event_of w e).line ++ printed (event_of w e).network (ls ++ ms))
         ≡ case_option o (unreadable ++ printed w ls) (λ e. result_of e (event_of w e).line ++ printed (event_of w e).network ls)
         ++ printed (run_of w (case_option o (events_in ls) (λ e. e ∷ events_in ls))) ms
-    go none h = rw (h w) (sym (append_assoc unreadable (printed w ls) (printed (run_of w (events_in ls)) ms)))
-    go (some e) h =
+    go None h = rw (h w) (sym (append_assoc unreadable (printed w ls) (printed (run_of w (events_in ls)) ms)))
+    go (Some e) h =
         rw (h (event_of w e).network) (sym (append_assoc (result_of e (event_of w e).line) (printed (event_of w e).network ls) (printed (run_of (event_of w e).network (events_in ls)) ms)))
 
 -- an unfinished line of more than 255 octets
 
-long_unreadable : (l : List ℕ) → 255 < length l → event_in l ≡ none
+long_unreadable : (l : List ℕ) → 255 < length l → event_in l ≡ None
 unfolding event_in said_of
 long_unreadable l h = rw (lt-ltb 255 (length l) h)
 

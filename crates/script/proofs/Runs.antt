@@ -4,7 +4,7 @@ use Prim.Native.Nat.{ℕ}
 use mathlib.Core.Path.{◌≡◌, refl, sym, ap, subst, ◌∙◌}
 use mathlib.Core.Bool.{true, ◌&&◌}
 use mathlib.Core.List.{List, [], ◌∷◌, ◌++◌}
-use mathlib.Core.Option.{Option, none, some}
+use Rattle.std.specs.Prelude.{Option, None, Some}
 use lib.Dec.{eqb, ltb, leb}
 use lib.ListN.{length, get_or}
 use Rattle.lists.specs.Options.{case_option}
@@ -58,8 +58,8 @@ module _ (n t r : ℕ) (v : valid_setup n t r ≡ true) where
           → ((e : Event) → Formed e → printed (run_of (new_network n t r) (es ++ (e ∷ []))) ls ≡ printed_by (run (begin n t r) (es ++ (e ∷ []))) ls)
           → case_option o (unreadable ++ printed (run_of (new_network n t r) es) ls) (λ e. result_of e (event_of (run_of (new_network n t r) es) e).line ++ printed (event_of (run_of (new_network n t r) es) e).network ls)
           ≡ case_option o (unreadable ++ printed_by (run (begin n t r) es) ls) (λ e. result_of e (line_of (step (run (begin n t r) es).network (length (run (begin n t r) es).log) e)) ++ printed_by (after (run (begin n t r) es) e) ls)
-      go none f h k = ap (λ (x : List ℕ). unreadable ++ x) h
-      go (some e) f h k =
+      go None f h k = ap (λ (x : List ℕ). unreadable ++ x) h
+      go (Some e) f h k =
           ap (λ (x : Line). result_of e x ++ printed (event_of (run_of (new_network n t r) es) e).network ls) (line_is es z e f)
           ∙ ap (λ (x : List ℕ). result_of e (line_of (step (run (begin n t r) es).network (length (run (begin n t r) es).log) e)) ++ x)
           (ap (λ (w : Network). printed w ls) (sym (record_more (new_network n t r) es e)) ∙ k e f ∙ ap (λ (w : World). printed_by w ls) (machine_more (begin n t r) es e))
@@ -95,7 +95,7 @@ set_up_limited ls =
     (λ e. by_cond (Of Limited) (ltb 255 (length (get_or ls 1 []))) (λ _. tt) (λ _. values_limited (fields (get_or ls 1 []))))
     (λ e. tt)
 
-module _ (s : List ℕ) (v : Values) (e : set_up_in (lines s) ≡ some v) where
+module _ (s : List ℕ) (v : Values) (e : set_up_in (lines s) ≡ Some v) where
   pub values_valid : valid_setup v.aps v.timeout v.resends ≡ true
   values_valid = subst (Of Limited) e (set_up_limited (lines s))
 
@@ -104,7 +104,7 @@ module _ (s : List ℕ) (v : Values) (e : set_up_in (lines s) ≡ some v) where
   unfolding output_of
   output_is = rw e (ap (λ (x : List ℕ). result_names ++ x) (sym (printed_is v.aps v.timeout v.resends values_valid (event_lines (lines s)))))
 
-pub output_bad : (s : List ℕ) → set_up_in (lines s) ≡ none → output_of s ≡ result_names ++ bad_set_up
+pub output_bad : (s : List ℕ) → set_up_in (lines s) ≡ None → output_of s ≡ result_names ++ bad_set_up
 unfolding output_of
 output_bad s e = rw e
 

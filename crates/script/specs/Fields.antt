@@ -1,17 +1,17 @@
 -- Document 01, "Floor rehearsal": numbers, stations and contexts, read from a field and written to one.
 use Rattle.std.specs.Prelude.{ℕ, ◌+◌, ◌*◌, ◌-◌, ◌/◌, ◌%◌, Bool, true, false, cond, ◌&&◌, ◌||◌, not, ◌≡◌, refl, List, [], ◌∷◌, eqb, ltb, leb, length}
-use Rattle.std.proofs.Math.Option.{Option, none, some}
+use Rattle.std.specs.Prelude.{Option, None, Some}
 use Rattle.lists.specs.Places.{every}
 use Rattle.machine.specs.Stations.{Station, same}
 use Rattle.script.specs.Text.{octets_of}
 
 -- "`-` for a field not given"
-unfoldable pub is_dash : List ℕ → Bool
+abbrev pub is_dash : List ℕ → Bool
 is_dash f = same f (octets_of "-")
 
 -- "Numbers are 0..65535 without leading zeros"
 
-unfoldable pub is_digit : ℕ → Bool
+abbrev pub is_digit : ℕ → Bool
 is_digit x = leb 48 x && leb x 57
 
 -- the number that the digits say, after those that say v
@@ -29,14 +29,14 @@ unfoldable pub is_number : List ℕ → Bool
 is_number f = is_plain f && (every is_digit f && leb (value_from 0 f) 65535)
 
 unfoldable pub number_in : List ℕ → Option ℕ
-number_in f = cond (is_number f) (some (value_from 0 f)) none
+number_in f = cond (is_number f) (Some (value_from 0 f)) None
 
 -- "station is 12 lower-case hex digits, context an even run of them"
 
-unfoldable pub is_hex : ℕ → Bool
+abbrev pub is_hex : ℕ → Bool
 is_hex x = is_digit x || (leb 97 x && leb x 102)
 
-unfoldable pub hex_of : ℕ → ℕ
+abbrev pub hex_of : ℕ → ℕ
 hex_of x = cond (is_digit x) (x - 48) (x - 87)
 
 -- two digits to an octet
@@ -46,11 +46,11 @@ octets_in (x ∷ []) = []
 octets_in (x ∷ y ∷ xs) = (hex_of x * 16 + hex_of y) ∷ octets_in xs
 
 unfoldable pub station_in : List ℕ → Option Station
-station_in f = cond (eqb (length f) 12 && every is_hex f) (some (octets_in f)) none
+station_in f = cond (eqb (length f) 12 && every is_hex f) (Some (octets_in f)) None
 
 -- a run has a digit: an empty field is none
 unfoldable pub context_in : List ℕ → Option (List ℕ)
-context_in f = cond (ltb 0 (length f) && (eqb (length f % 2) 0 && every is_hex f)) (some (octets_in f)) none
+context_in f = cond (ltb 0 (length f) && (eqb (length f % 2) 0 && every is_hex f)) (Some (octets_in f)) None
 
 -- A number below 1000, as ANSWER, SENT, GIVENUP, HELD and TABLES are
 
@@ -65,42 +65,42 @@ decimal n =
 
 -- examples
 
-pub largest : number_in (octets_of "65535") ≡ some 65535
-unfolding number_in is_number is_plain is_digit value_from every octets_of
+pub largest : number_in (octets_of "65535") ≡ Some 65535
+unfolding number_in is_number is_plain value_from every
 largest = refl
 
-pub too_large : number_in (octets_of "65536") ≡ none
-unfolding number_in is_number is_plain is_digit value_from every octets_of
+pub too_large : number_in (octets_of "65536") ≡ None
+unfolding number_in is_number is_plain value_from every
 too_large = refl
 
-pub leading_zero : number_in (octets_of "01") ≡ none
-unfolding number_in is_number is_plain is_digit value_from every octets_of
+pub leading_zero : number_in (octets_of "01") ≡ None
+unfolding number_in is_number is_plain value_from every
 leading_zero = refl
 
-pub zero_alone : number_in (octets_of "0") ≡ some 0
-unfolding number_in is_number is_plain is_digit value_from every octets_of
+pub zero_alone : number_in (octets_of "0") ≡ Some 0
+unfolding number_in is_number is_plain value_from every
 zero_alone = refl
 
-pub no_digits : number_in (octets_of "") ≡ none
-unfolding number_in is_number is_plain is_digit value_from every octets_of
+pub no_digits : number_in (octets_of "") ≡ None
+unfolding number_in is_number is_plain value_from every
 no_digits = refl
 
-pub a_station : station_in (octets_of "0200000000af") ≡ some (2 ∷ 0 ∷ 0 ∷ 0 ∷ 0 ∷ 175 ∷ [])
-unfolding station_in is_hex hex_of is_digit octets_in every octets_of
+pub a_station : station_in (octets_of "0200000000af") ≡ Some (2 ∷ 0 ∷ 0 ∷ 0 ∷ 0 ∷ 175 ∷ [])
+unfolding station_in octets_in every
 a_station = refl
 
-pub upper_case : station_in (octets_of "0200000000AF") ≡ none
-unfolding station_in is_hex hex_of is_digit octets_in every octets_of
+pub upper_case : station_in (octets_of "0200000000AF") ≡ None
+unfolding station_in octets_in every
 upper_case = refl
 
-pub odd_run : context_in (octets_of "abc") ≡ none
-unfolding context_in is_hex hex_of is_digit octets_in every octets_of
+pub odd_run : context_in (octets_of "abc") ≡ None
+unfolding context_in octets_in every
 odd_run = refl
 
-pub no_run : context_in (octets_of "") ≡ none
-unfolding context_in is_hex hex_of is_digit octets_in every octets_of
+pub no_run : context_in (octets_of "") ≡ None
+unfolding context_in octets_in every
 no_run = refl
 
 pub three_digits : decimal 255 ≡ octets_of "255"
-unfolding decimal digit octets_of
+unfolding decimal digit
 three_digits = refl

@@ -12,5 +12,3 @@ pub mod Result
 pub mod Script
 -- texts put into a lent buffer
 pub mod Put
--- a value that may not be there, handed on
-pub mod Told

@@ -1,8 +1,8 @@
 -- Document 01, "Floor rehearsal": the line that an event prints.
 use Rattle.std.specs.Prelude.{ℕ, Bool, true, false, ◌&&◌, ◌≡◌, refl, List, ◌∷◌, ◌++◌}
 use Rattle.lists.specs.Table.{accepts}
-use Rattle.answers.specs.declared.Answer.TheVariants.{InvalidRecord, UnreadableLine}
-use Rattle.answers.specs.Numbers.{number_of}
+use Rattle.answers.specs.declared.Refusal.TheVariants.{InvalidRecord, UnreadableLine}
+use Rattle.answers.specs.Numbers.{refusal_number}
 use Rattle.machine.specs.Events.{Event, join, leave, deliver, repeat, lose, tick, who}
 use Rattle.network.specs.Events.{Line}
 use Rattle.events.specs.declared.Kind.{Kind}
@@ -54,23 +54,23 @@ result_of e l = result_as (kind_of e) l
 -- examples
 
 pub told : result_as Who (record { answer = 0; sent = 0; given_up = 0; held = 2; tables = 1 }) ≡ octets_of "who 0 0 0 2 1\n"
-unfolding result_as field held_fields decimal digit octets_of
+unfolding result_as field held_fields decimal digit
 told = refl
 
 pub refused_who : result_as Who (record { answer = 13; sent = 0; given_up = 0; held = 0; tables = 0 }) ≡ octets_of "who 13 0 0 - -\n"
-unfolding result_as field held_fields decimal digit octets_of
+unfolding result_as field held_fields decimal digit
 refused_who = refl
 
 pub a_join : result_as Join (record { answer = 0; sent = 1; given_up = 0; held = 0; tables = 0 }) ≡ octets_of "join 0 1 0 - -\n"
-unfolding result_as field held_fields decimal digit octets_of
+unfolding result_as field held_fields decimal digit
 a_join = refl
 
 -- the two lines that no event prints have the numbers of their answers, and "0 0 - -" as a refused event has
 
-pub bad_set_up_14 : bad_set_up ≡ octets_of "?" ++ (field (number_of InvalidRecord) ++ octets_of " 0 0 - -\n")
-unfolding bad_set_up field decimal digit octets_of
+pub bad_set_up_14 : bad_set_up ≡ octets_of "?" ++ (field (refusal_number InvalidRecord) ++ octets_of " 0 0 - -\n")
+unfolding bad_set_up field decimal digit
 bad_set_up_14 = refl
 
-pub unreadable_18 : unreadable ≡ octets_of "?" ++ (field (number_of UnreadableLine) ++ octets_of " 0 0 - -\n")
-unfolding unreadable field decimal digit octets_of
+pub unreadable_18 : unreadable ≡ octets_of "?" ++ (field (refusal_number UnreadableLine) ++ octets_of " 0 0 - -\n")
+unfolding unreadable field decimal digit
 unreadable_18 = refl

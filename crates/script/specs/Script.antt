@@ -1,6 +1,6 @@
 -- Document 01, "Floor rehearsal": what a whole script prints, and what is proved of its events.
 use Rattle.std.specs.Prelude.{ℕ, ◌≡◌, List, [], ◌∷◌, ◌++◌, length}
-use Rattle.std.proofs.Math.Option.{some}
+use Rattle.std.specs.Prelude.{Some}
 use Rattle.lists.specs.Options.{case_option}
 use Rattle.machine.specs.Events.{Event, step}
 use Rattle.machine.specs.History.{World, after, run, begin}
@@ -34,7 +34,7 @@ output_of s = result_names ++ case_option (set_up_in (lines s)) bad_set_up (λ v
 
 -- the claim of demand 3, of the list of the script's events
 abbrev pub ScriptClaim : List ℕ → Type 0
-ScriptClaim s = (v : Values) → set_up_in (lines s) ≡ some v → Claim v.resends (run (start_of v) (events_in (event_lines (lines s))))
+ScriptClaim s = (v : Values) → set_up_in (lines s) ≡ Some v → Claim v.resends (run (start_of v) (events_in (event_lines (lines s))))
 
 -- The same on a network's record: what the lines print there, and the record then
 

@@ -1,13 +1,11 @@
 -- Document 01, "Floor rehearsal": the octets of a text, its lines, and the fields of a line.
-use Rattle.std.specs.Prelude.{ℕ, ◌+◌, ◌-◌, cond, ◌≡◌, refl, List, [], ◌∷◌, eqb, ltb, length, take, drop}
-use Prim.Native.Char.{code}
-use Prim.Native.String.{String, [] as done, ◌∷◌ as ◌then◌}
+use Rattle.std.specs.Prelude.{ℕ, ◌+◌, ◌-◌, cond, ◌≡◌, refl, List, [], ◌∷◌, eqb, ltb, length, take, drop, codes}
+use Prim.Native.String.{String}
 use Rattle.lists.specs.Search.{index_by}
 
 -- the octets of a text that stands in document 01
-unfoldable pub octets_of : String → List ℕ
-octets_of done = []
-octets_of (c then s) = code c ∷ octets_of s
+abbrev pub octets_of : String → List ℕ
+octets_of s = codes s
 
 -- x in front of the first part
 unfoldable pub on_first : ℕ → List (List ℕ) → List (List ℕ)
@@ -44,13 +42,13 @@ part at end s = take (end - at) (drop at s)
 -- examples
 
 pub two_lines : lines (octets_of "a\n\nb\n") ≡ octets_of "a" ∷ octets_of "" ∷ octets_of "b" ∷ []
-unfolding octets_of split on_first
+unfolding split on_first
 two_lines = refl
 
 pub last_without : lines (octets_of "a\nb") ≡ octets_of "a" ∷ octets_of "b" ∷ []
-unfolding octets_of split on_first
+unfolding split on_first
 last_without = refl
 
 pub blanks : fields (octets_of "who  x ") ≡ octets_of "who" ∷ octets_of "" ∷ octets_of "x" ∷ octets_of "" ∷ []
-unfolding octets_of split on_first
+unfolding split on_first
 blanks = refl

@@ -1,9 +1,6 @@
--- what is handed on of something that may not be there
-pub mod Choices
 -- texts
 pub mod Texts
 -- numbers
-pub mod Digits
 pub mod Numbers
--- stations and contexts
+-- runs of digits
 pub mod Runs

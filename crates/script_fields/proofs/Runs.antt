@@ -1,22 +1,24 @@
 -- The octets of a run of hex digits, two digits to an octet, and put at the front of an array one by one.
 -- Assumes nothing.
-use Prim.Native.Nat.{ℕ, zero, suc, ◌+◌, ◌*◌, ◌/◌, ◌%◌, ◌<◌}
-use mathlib.Core.Path.{◌≡◌, refl, sym, ap, ◌∙◌}
-use mathlib.Core.Bool.{Bool, true, false, ◌&&◌}
-use mathlib.Core.List.{List, [], ◌∷◌, ◌++◌, append-nil}
-use mathlib.Core.Option.{none, some}
-use native.Mathlib.Omega.{arith}
-use native.Mathlib.Numerals.{add-one}
-use borrow.Author.Tests.{eq-eqb, ne_eqb}
-use lib.Dec.{ltb, eqb}
-use lib.ListN.{length, get_or, take, drop, set}
-use lib.Seq.{drop-cons, take-suc, length-take-le, set_at, append_snoc}
-use Rattle.lists.specs.Options.{is_some}
+use Rattle.std.proofs.Common.{◌≡◌, refl, sym, ◌∙◌, ℕ, zero, suc, ◌+◌, ◌*◌, ◌/◌, ◌<◌, ◌≤◌, ◌%◌, ◌&&◌, ltb, eqb, List, [], ◌∷◌, ◌++◌, Bool, true, false, cond, None, Some, is_some, length, get_or, take, drop, set, arith, add-one, drop-cons, append-nil}
+use lib.ListN.{drop_of_length-le}
+use lib.Seq.{take-suc, length-take-le, set_at, append_snoc}
+use Rattle.std.specs.List.{list_all}
 use Rattle.lists.specs.Places.{every}
-use Rattle.lists.proofs.Choices.{and_right, and_false}
-use Rattle.lists.proofs.Fronts.{six_cons}
-use Rattle.script.specs.Fields.{is_hex, hex_of, octets_in, station_in, context_in}
-use Rattle.script_fields.proofs.Choices.{some_where}
+use Rattle.lists.proofs.Choices.{and_left, and_right}
+use Rattle.script.specs.Fields.{is_hex, hex_of, octets_in, context_in}
+
+pub every_all : {A : Type 0} (p : A → Bool) (xs : List A) → every p xs ≡ list_all p xs
+unfolding every
+every_all p [] = refl
+every_all p (x ∷ xs) = rw (every_all p xs)
+
+-- one digit of a run
+pub hex_at : (f : List ℕ) (i : ℕ) → every is_hex f ≡ true → i < length f → is_hex (get_or f i 0) ≡ true
+unfolding every
+hex_at [] i e l = absurd (omega arith)
+hex_at (x ∷ xs) zero e l = and_left (is_hex x) (every is_hex xs) e
+hex_at (x ∷ xs) (suc i) e l = hex_at xs i (and_right (is_hex x) (every is_hex xs) e) (omega arith)
 
 -- the octets of a run: how many, and each of them
 
@@ -44,45 +46,29 @@ front_next s d i l k =
     rw (drop-cons d i 0, set_at (take i s) (get_or d i 0) (drop (suc i) d) (get_or s i 0) i (length-take-le i s (omega arith)), add-one, take-suc s i 0)
     (sym (append_snoc (take i s) (get_or s i 0) (drop (suc i) d)))
 
--- what is read
+-- put over all of an array
+pub front_all : (s d : List ℕ) → length d ≤ length s → s ++ drop (length s) d ≡ s
+front_all s d h = rw (drop_of_length-le d h, append-nil s)
 
-module _ (f : List ℕ) where
-  -- of a station
+-- something where a test passes
+some_where : {A : Type 0} (x : A) (b : Bool) → is_some (cond b (Some x) None) ≡ b
+some_where x true = refl
+some_where x false = refl
 
-  pub not_twelve : (length f ≡ 12 → ⊥) → station_in f ≡ none
-  unfolding station_in
-  not_twelve h = rw (ne_eqb (length f) 12 h)
+pub context_test : (f : List ℕ) → is_some (context_in f) ≡ ltb 0 (length f) && (eqb (length f % 2) 0 && every is_hex f)
+unfolding context_in
+context_test f = some_where (octets_in f) _
 
-  pub not_hex : every is_hex f ≡ false → station_in f ≡ none
-  unfolding station_in
-  not_hex e = rw (e, and_false)
+-- a field that is a context, and one that is none
 
-  pub is_station : length f ≡ 12 → every is_hex f ≡ true
-      → station_in f
-      ≡ some (get_or (octets_in f) 0 0 ∷ get_or (octets_in f) 1 0 ∷ get_or (octets_in f) 2 0 ∷ get_or (octets_in f) 3 0 ∷ get_or (octets_in f) 4 0 ∷ get_or (octets_in f) 5 0 ∷ [])
-  unfolding station_in
-  is_station l e =
-      rw (eq-eqb (length f) 12 l, e)
-      (ap some (sym (six_cons (octets_in f) (omega (arith, octets_length f)) [] ∙ append-nil (octets_in f))))
+pub context_some : (f : List ℕ) → is_some (context_in f) ≡ true → context_in f ≡ Some (octets_in f)
+unfolding context_in
+context_some f e = rw (sym (some_where (octets_in f) _) ∙ e)
 
-  -- of a context
+pub context_none : (f : List ℕ) → is_some (context_in f) ≡ false → context_in f ≡ None
+unfolding context_in
+context_none f e = rw (sym (some_where (octets_in f) _) ∙ e)
 
-  pub context_by : (a b c : Bool) → ltb 0 (length f) ≡ a → eqb (length f % 2) 0 ≡ b → every is_hex f ≡ c → a && (b && c) ≡ is_some (context_in f)
-  unfolding context_in
-  context_by a b c p q r = rw (p, q, r) (sym (some_where (octets_in f) (a && (b && c))))
-
-  -- the test of a context
-  passes : {b : Bool} → is_some (context_in f) ≡ b → ltb 0 (length f) && (eqb (length f % 2) 0 && every is_hex f) ≡ b
-  unfolding context_in
-  passes e = sym (some_where (octets_in f) _) ∙ e
-
-  pub context_hex : is_some (context_in f) ≡ true → every is_hex f ≡ true
-  context_hex e = and_right (eqb (length f % 2) 0) _ (and_right (ltb 0 (length f)) _ (passes e))
-
-  pub is_context : is_some (context_in f) ≡ true → context_in f ≡ some (octets_in f)
-  unfolding context_in
-  is_context e = rw (passes e)
-
-  pub no_context : is_some (context_in f) ≡ false → context_in f ≡ none
-  unfolding context_in
-  no_context e = rw (passes e)
+pub context_hex : (f : List ℕ) → is_some (context_in f) ≡ true → every is_hex f ≡ true
+unfolding context_in
+context_hex f e = and_right (eqb (length f % 2) 0) _ (and_right (ltb 0 (length f)) _ (sym (some_where (octets_in f) _) ∙ e))

@@ -1,30 +1,28 @@
--- Two texts compared octet by octet.
+-- Texts compared by the slices' `==`, and the event found by its name.
 -- Assumes nothing.
-use Prim.Native.Nat.{ℕ, suc, ◌+◌, ◌≤◌, ◌<◌}
-use mathlib.Core.Path.{◌≡◌, refl, ap}
-use mathlib.Core.Bool.{true, false, ◌&&◌}
-use mathlib.Core.List.{List, [], ◌∷◌}
-use native.Mathlib.Numerals.{add-one}
-use lib.Dec.{eqb}
-use lib.ListN.{length, get_or, drop, drop_of_length-le}
-use lib.Seq.{drop-cons}
-use Rattle.lists.proofs.Choices.{and_false}
+use Rattle.std.proofs.Common.{◌≡◌, refl, ℕ, List, [], ◌∷◌, Bool, true, false, not, sym, ◌∙◌, eqb, find}
+use Rattle.std.proofs.lemmas.Bool.{not-true, not-false}
+use Rattle.std.specs.Cmp.Lexicographic.{pointwise}
 use Rattle.machine.specs.Stations.{same}
+use Rattle.events.specs.declared.Kind.{Kind}
+use Rattle.script.specs.EventLine.{name_of, named_in}
 
--- of other lengths
-pub same_length : (a b : List ℕ) → (length a ≡ length b → ⊥) → same a b ≡ false
+pub equal_texts : (a b : List ℕ) → pointwise eqb a b ≡ same a b
 unfolding same
-same_length [] [] h = absurd (h refl)
-same_length [] (y ∷ ys) h = refl
-same_length (x ∷ xs) [] h = refl
-same_length (x ∷ xs) (y ∷ ys) h = rw (same_length xs ys (λ e. h (ap suc e)), and_false)
+equal_texts [] [] = refl
+equal_texts [] (y ∷ b) = refl
+equal_texts (x ∷ a) [] = refl
+equal_texts (x ∷ a) (y ∷ b) = rw (equal_texts a b)
 
--- from octet i on
-pub same_next : (a b : List ℕ) (i : ℕ) → i < length a → i < length b
-    → same (drop i a) (drop i b) ≡ eqb (get_or a i 0) (get_or b i 0) && same (drop (i + 1) a) (drop (i + 1) b)
-unfolding same
-same_next a b i l k = rw (add-one i, drop-cons a i 0, drop-cons b i 0)
+pub named_find : (ks : List Kind) (f : List ℕ) → find (λ k. pointwise eqb f (name_of k)) ks ≡ named_in ks f
+unfolding named_in
+named_find [] f = refl
+named_find (k ∷ ks) f = rw (equal_texts f (name_of k), named_find ks f)
 
-pub same_end : (a b : List ℕ) (i : ℕ) → length a ≤ i → length b ≤ i → same (drop i a) (drop i b) ≡ true
-unfolding same
-same_end a b i l k = rw (drop_of_length-le a l, drop_of_length-le b k)
+-- what a test says for the inequality of a and b, which is the text n
+
+pub differ : (a b n : List ℕ) (r : Bool) → r ≡ not (pointwise eqb a b) → b ≡ n → r ≡ true → same a n ≡ false
+differ a b n r e f h = sym (equal_texts a n) ∙ not-true _ (rw f at (sym e ∙ h))
+
+pub agree : (a b n : List ℕ) (r : Bool) → r ≡ not (pointwise eqb a b) → b ≡ n → r ≡ false → same a n ≡ true
+agree a b n r e f h = sym (equal_texts a n) ∙ not-false _ (rw f at (sym e ∙ h))

@@ -1,13 +1,12 @@
 -- What the code's structs mean: what a line of an event says, and the set-up.
 use Rattle.std.specs.Prelude.{ℕ, ◌-◌, Bool, true, false, cond, List, [], ◌∷◌, eqb, length, replicate}
-use Rattle.std.proofs.Math.Option.{Option, none, some}
+use Rattle.std.specs.Prelude.{Option, None, Some}
 use Rattle.lists.specs.Options.{case_option}
 use Rattle.machine.specs.Stations.{Station}
 use Rattle.events.specs.declared.Kind.{Kind}
 use Rattle.events.specs.declared.Kind.TheVariants.{Who}
-use Rattle.joining.specs.Join.{old_of}
 use Rattle.script.specs.Text.{lines}
-use Rattle.script.specs.Told.{told_front}
+use Rattle.script.specs.Put.{front_given}
 use Rattle.script.specs.EventLine.{Said, said_of}
 use Rattle.script.specs.SetUpLines.{set_up_in}
 use Rattle.script_reader.specs.declared.Heard as code
@@ -23,21 +22,27 @@ pub record Heard : Type 0 where
   pub old : Option ℕ
   pub len : ℕ
 
-abbrev pub heard_from : code.Heard → Heard
-heard_from r =
+-- an unreadable line: a who of no station, which changes nothing
+unfoldable pub nothing_heard : Heard
+nothing_heard = record { readable = false; kind = Who; at = 0; station = replicate 6 0; sequence = 0; old = None; len = 0 }
+
+-- the code's, of a line that can be read or not
+abbrev pub heard_as : Bool → code.Heard → Heard
+heard_as readable r =
     record {
-      readable = r.readable;
+      readable = readable;
       kind = r.event.kind;
       at = r.event.at;
       station = r.event.station;
       sequence = r.event.sequence;
-      old = old_of r.event.old;
+      old = r.event.old;
       len = r.context_len;
     }
 
--- an unreadable line: a who of no station, which changes nothing
-unfoldable pub nothing_heard : Heard
-nothing_heard = record { readable = false; kind = Who; at = 0; station = replicate 6 0; sequence = 0; old = none; len = 0 }
+-- what the reader answers
+abbrev pub heard_from : Option code.Heard → Heard
+heard_from None = nothing_heard
+heard_from (Some r) = heard_as true r
 
 unfoldable pub heard_of : Said → Heard
 heard_of x =
@@ -56,7 +61,7 @@ heard_in l = case_option (said_of l) nothing_heard heard_of
 
 -- and the lent array: the context at its front
 unfoldable pub context_to : List ℕ → List ℕ → List ℕ
-context_to l b = told_front (case_option (said_of l) none (λ x. some x.context)) b
+context_to l b = front_given (case_option (said_of l) None (λ x. Some x.context)) b
 
 -- The set-up
 
@@ -76,11 +81,14 @@ pub record Opening : Type 0 where
   pub resends : ℕ
   pub next : ℕ
 
-abbrev pub opening_from : opened.Opening → Opening
-opening_from r = record { given = r.given; aps = r.aps; timeout = r.timeout; resends = r.resends; next = r.next }
+-- where the three lines are bad, all 0
+unfoldable pub nothing_opened : Opening
+nothing_opened = record { given = false; aps = 0; timeout = 0; resends = 0; next = 0 }
 
--- the values of the first three lines of a script, and the place after these lines; all 0 where they are bad
+abbrev pub opening_from : Option opened.Opening → Opening
+opening_from None = nothing_opened
+opening_from (Some r) = record { given = true; aps = r.aps; timeout = r.timeout; resends = r.resends; next = r.next }
+
+-- the values of the first three lines of a script, and the place after these lines
 unfoldable pub opening_in : List ℕ → Opening
-opening_in s =
-    case_option (set_up_in (lines s)) (record { given = false; aps = 0; timeout = 0; resends = 0; next = 0 })
-    (λ v. record { given = true; aps = v.aps; timeout = v.timeout; resends = v.resends; next = three_lines s })
+opening_in s = case_option (set_up_in (lines s)) nothing_opened (λ v. record { given = true; aps = v.aps; timeout = v.timeout; resends = v.resends; next = three_lines s })

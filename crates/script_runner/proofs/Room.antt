@@ -28,7 +28,7 @@ lines_few (x ∷ xs) = go (eqb x 10) (split 10 [] xs) (lines_few xs)
     go false (p ∷ ps) h = unfold on_first in omega arith
 
 unreadable_short : length unreadable ≤ 32
-unfolding unreadable octets_of
+unfolding unreadable
 unreadable_short = omega arith
 
 result_of_short : (e : Event) (w : Network) → length (result_of e (event_of w e).line) ≤ 32

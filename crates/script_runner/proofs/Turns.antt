@@ -4,7 +4,7 @@ use Prim.Native.Nat.{ℕ}
 use mathlib.Core.Path.{◌≡◌, refl, sym, ap, ◌∙◌}
 use mathlib.Core.Bool.{Bool, false}
 use mathlib.Core.List.{List, ◌∷◌, ◌++◌}
-use mathlib.Core.Option.{Option, none, some}
+use Rattle.std.specs.Prelude.{Option, None, Some}
 use lib.ListN.{replicate}
 use Rattle.lists.proofs.Choices.{by_bool}
 use Rattle.machine.specs.Stations.{Station}
@@ -34,19 +34,19 @@ kind_of_lem Who at s n old c = refl
 
 -- lines after a readable one and after an unreadable one
 
-printed_read : (w : Network) (l : List ℕ) (ls : List (List ℕ)) (e : Event) → event_in l ≡ some e → printed w (l ∷ ls) ≡ result_of e (event_of w e).line ++ printed (event_of w e).network ls
+printed_read : (w : Network) (l : List ℕ) (ls : List (List ℕ)) (e : Event) → event_in l ≡ Some e → printed w (l ∷ ls) ≡ result_of e (event_of w e).line ++ printed (event_of w e).network ls
 unfolding printed
 printed_read w l ls e q = rw q
 
-played_read : (w : Network) (l : List ℕ) (ls : List (List ℕ)) (e : Event) → event_in l ≡ some e → played w (l ∷ ls) ≡ played (event_of w e).network ls
+played_read : (w : Network) (l : List ℕ) (ls : List (List ℕ)) (e : Event) → event_in l ≡ Some e → played w (l ∷ ls) ≡ played (event_of w e).network ls
 unfolding played events_in run_of
 played_read w l ls e q = rw q
 
-printed_unread : (w : Network) (l : List ℕ) (ls : List (List ℕ)) → event_in l ≡ none → printed w (l ∷ ls) ≡ unreadable ++ printed w ls
+printed_unread : (w : Network) (l : List ℕ) (ls : List (List ℕ)) → event_in l ≡ None → printed w (l ∷ ls) ≡ unreadable ++ printed w ls
 unfolding printed
 printed_unread w l ls q = rw q
 
-played_unread : (w : Network) (l : List ℕ) (ls : List (List ℕ)) → event_in l ≡ none → played w (l ∷ ls) ≡ played w ls
+played_unread : (w : Network) (l : List ℕ) (ls : List (List ℕ)) → event_in l ≡ None → played w (l ∷ ls) ≡ played w ls
 unfolding played events_in
 played_unread w l ls q = rw q
 

@@ -4,7 +4,7 @@ use Prim.Native.Nat.{ℕ, suc, ◌+◌, ◌-◌, ◌≤◌, ◌<◌}
 use mathlib.Core.Path.{◌≡◌, refl, sym, ap, ◌∙◌}
 use mathlib.Core.Bool.{Bool, true, false, cond}
 use mathlib.Core.List.{List, [], ◌∷◌}
-use mathlib.Core.Option.{Option, none, some}
+use Rattle.std.specs.Prelude.{Option, None, Some}
 use native.Mathlib.Omega.{arith}
 use borrow.Author.Tests.{ltb-true, ltb-false, lt-ltb, le-ltb, lt-leb, le-leb}
 use lib.Dec.{eqb, ltb, leb}
@@ -23,7 +23,7 @@ use Rattle.script.specs.SetUpLines.{Values, set_up_in, event_lines}
 use Rattle.script.specs.Result.{result_names}
 use Rattle.script.specs.Script.{printed, played}
 use Rattle.script.proofs.Runs.{values_valid}
-use Rattle.script_reader.specs.Heard.{past_line, three_lines, Opening, opening_in}
+use Rattle.script_reader.specs.Heard.{past_line, three_lines, Opening, opening_in, nothing_opened}
 use Rattle.script_runner.specs.Played.{Played, played_into, written_into}
 
 -- t is what is left of s
@@ -87,21 +87,21 @@ abbrev pub values_of : Opening → Values
 values_of r = record { aps = r.aps; timeout = r.timeout; resends = r.resends }
 
 module _ (s : List ℕ) (r : Opening) (is : r ≡ opening_in s) where
-  pub opened_bad : r.given ≡ false → set_up_in (lines s) ≡ none
-  unfolding opening_in
+  pub opened_bad : r.given ≡ false → set_up_in (lines s) ≡ None
+  unfolding opening_in nothing_opened
   opened_bad g = go (set_up_in (lines s)) (ap (λ (x : Opening). x.given) (sym is) ∙ g)
     where
-      go : (o : Option Values) → (case_option {B = Opening} o (record { given = false; aps = 0; timeout = 0; resends = 0; next = 0 }) (λ v. record { given = true; aps = v.aps; timeout = v.timeout; resends = v.resends; next = three_lines s })).given ≡ false → o ≡ none
-      go none e = refl
-      go (some v) e = not_both refl e
+      go : (o : Option Values) → (case_option {B = Opening} o nothing_opened (λ v. record { given = true; aps = v.aps; timeout = v.timeout; resends = v.resends; next = three_lines s })).given ≡ false → o ≡ None
+      go None e = refl
+      go (Some v) e = not_both refl e
 
-  pub opened : r.given ≡ true → (set_up_in (lines s) ≡ some (values_of r)) × (r.next ≡ three_lines s)
-  unfolding opening_in
+  pub opened : r.given ≡ true → (set_up_in (lines s) ≡ Some (values_of r)) × (r.next ≡ three_lines s)
+  unfolding opening_in nothing_opened
   opened g = go (set_up_in (lines s)) is
     where
-      go : (o : Option Values) → r ≡ case_option o (record { given = false; aps = 0; timeout = 0; resends = 0; next = 0 }) (λ v. record { given = true; aps = v.aps; timeout = v.timeout; resends = v.resends; next = three_lines s }) → (o ≡ some (values_of r)) × (r.next ≡ three_lines s)
-      go none e = not_both g (ap (λ (x : Opening). x.given) e)
-      go (some v) e = (ap (λ (x : Opening). some (values_of x)) (sym e), ap (λ (x : Opening). x.next) e)
+      go : (o : Option Values) → r ≡ case_option o nothing_opened (λ v. record { given = true; aps = v.aps; timeout = v.timeout; resends = v.resends; next = three_lines s }) → (o ≡ Some (values_of r)) × (r.next ≡ three_lines s)
+      go None e = not_both g (ap (λ (x : Opening). x.given) e)
+      go (Some v) e = (ap (λ (x : Opening). Some (values_of x)) (sym e), ap (λ (x : Opening). x.next) e)
 
   -- set up so, it is a new network, to which 14 does not apply
   module _ (g : r.given ≡ true) (x : Started) (u : x ≡ set_up_done r.aps r.timeout r.resends) where
@@ -117,16 +117,16 @@ module _ (s : List ℕ) (r : Opening) (is : r ≡ opening_in s) where
 
 -- the buffer
 
-pub refused_is : (a n : ℕ) (t b o : List ℕ) → a ≡ 10 → n ≡ 0 → o ≡ b → length b < length t → record { answer = a; len = n; buffer = o } ≡ written_into t b
+pub refused_is : (t b o : List ℕ) → o ≡ b → length b < length t → record { answer = 10; len = 0; buffer = o } ≡ written_into t b
 unfolding written_into
-refused_is a n t b o ea en eo l = rw (lt-ltb (length b) (length t) l, ea, en, eo)
+refused_is t b o eo l = rw (lt-ltb (length b) (length t) l, eo)
 
 pub written_is : (n : ℕ) (t b o : List ℕ) → length t ≤ length b → n ≡ length t → o ≡ front t b → record { answer = 0; len = n; buffer = o } ≡ written_into t b
 unfolding written_into
 written_is n t b o l en eo = rw (le-ltb (length b) (length t) l, en, eo)
 
 pub names_length : length result_names ≡ 38
-unfolding result_names octets_of
+unfolding result_names
 names_length = refl
 
 -- lines of which what they print fits

@@ -1,6 +1,7 @@
 -- What is printed into a lent buffer: the lines of a script, and a whole script.
-use Rattle.std.specs.Prelude.{ℕ, Bool, true, false, cond, List, ltb, length}
-use Rattle.answers.specs.Numbers.{number_of}
+use Rattle.std.specs.Prelude.{ℕ, Bool, true, false, cond, List, ltb, length, Result, Ok, Err}
+use Rattle.answers.specs.declared.Refusal.{Refusal}
+use Rattle.answers.specs.Numbers.{refusal_number}
 use Rattle.network.specs.declared.Network.{Network}
 use Rattle.network.specs.Events.{Line}
 use Rattle.events.specs.declared.Kind.{Kind}
@@ -8,7 +9,6 @@ use Rattle.script.specs.Put.{front}
 use Rattle.script.specs.Result.{unreadable, result_as}
 use Rattle.script.specs.Script.{output_of, printed, played}
 use Rattle.script_runner.specs.declared.Played as lines
-use Rattle.script_runner.specs.declared.Rehearsed as code
 
 -- the line that a line prints: an event of this kind that was answered so, or an unreadable one
 abbrev pub text_of : Bool → Kind → Line → List ℕ
@@ -39,8 +39,10 @@ pub record Rehearsed : Type 0 where
   pub len : ℕ
   pub buffer : List ℕ
 
-abbrev pub rehearsed_from : code.Rehearsed → List ℕ → Rehearsed
-rehearsed_from r b = record { answer = number_of r.answer; len = r.len; buffer = b }
+-- the length of the output, or the refusal
+abbrev pub rehearsed_from : Result ℕ Refusal → List ℕ → Rehearsed
+rehearsed_from (Ok n) b = record { answer = 0; len = n; buffer = b }
+rehearsed_from (Err r) b = record { answer = refusal_number r; len = 0; buffer = b }
 
 -- a text put at the front of the buffer: 10 where the buffer is shorter than it, and then as it came
 unfoldable pub written_into : List ℕ → List ℕ → Rehearsed

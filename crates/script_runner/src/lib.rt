@@ -12,10 +12,11 @@ ghost use Rattle.script.specs.Result.{result_names, bad_set_up};
 ghost use Rattle.script.specs.Script.{printed, ScriptClaim};
 ghost use Rattle.script_runner.specs.Played.{text_of, played_from, played_into, rehearsed_from, written_into, rehearsed_into};
 
-use answers::Answer;
+use answers::{Answer, Refusal};
 use events::Kind;
 use floor_link::Line;
 use network::Network;
+use record::Setup;
 
 // Whether what the lines print fits the buffer; the record after them, and the length of what they print. Where it does not fit, the
 // record as it came, and 0.
@@ -23,13 +24,6 @@ use network::Network;
 pub struct Played {
     pub fits: bool,
     pub network: Network,
-    pub len: usize,
-}
-
-// What a whole script answers: 0 and the length of its output, or 10 and 0.
-#[derive(Clone, Copy)]
-pub struct Rehearsed {
-    pub answer: Answer,
     pub len: usize,
 }
 
@@ -56,7 +50,7 @@ fn answer_of(kind: Kind, station: [u8; 6], answer: Answer, sent: u8, given_up: u
     }
     if actions::is_group(station) {
         return Line {
-            answer: Answer::GroupAddress,
+            answer: Err(Refusal::GroupAddress),
             sent: 0,
             given_up: 0,
             held: 0,
@@ -64,7 +58,7 @@ fn answer_of(kind: Kind, station: [u8; 6], answer: Answer, sent: u8, given_up: u
         };
     }
     Line {
-        answer: Answer::Accepted,
+        answer: Ok(()),
         sent: 0,
         given_up: 0,
         held,
@@ -108,9 +102,12 @@ pub fn play(network: Network, s: &[u8], out: &mut [u8], writing: bool) -> Played
     ensures out_after { played_from result out.new ≡ played_into network (lines s.now) writing out.old }
     ensures network_value_2 { valid_network_record result.network ≡ true }
 {
-    let n = network.ap_count;
-    let timeout = network.timeout;
-    let resend_limit = network.resend_limit;
+    let setup = Setup {
+        ap_count: network.ap_count,
+        timeout: network.timeout,
+        resend_limit: network.resend_limit,
+    };
+    let n = setup.ap_count;
     let mut points = network.points;
     let mut flight = network.in_flight;
     let mut context = [0u8; 128];
@@ -118,7 +115,9 @@ pub fn play(network: Network, s: &[u8], out: &mut [u8], writing: bool) -> Played
     let mut at: usize = 0;
     while at < s.len() {
         let end = script_reader::place_of(s, at, b'\n');
-        let x = script_reader::read_event(&s[at..end], &mut context);
+        let heard = script_reader::read_event(&s[at..end], &mut context);
+        let readable = heard.is_some();
+        let x = heard.unwrap_or(script_reader::unreadable());
         let e = x.event;
         let kind = e.kind;
         let station = e.station;
@@ -138,7 +137,7 @@ pub fn play(network: Network, s: &[u8], out: &mut [u8], writing: bool) -> Played
         let b = events::point_of(kind, number, n, count, p.to) as usize;
         let a = points[b];
         let c = x.context_len;
-        let y = events::action(e, &context[..c], n, timeout, resend_limit, count, a, p);
+        let y = events::action(e, &context[..c], setup, count, a, p);
         let point = y.point;
         let sent = y.sent;
         let answer = y.answer;
@@ -168,7 +167,7 @@ pub fn play(network: Network, s: &[u8], out: &mut [u8], writing: bool) -> Played
             j += 1;
         }
         let line = answer_of(kind, station, answer, sends as u8, y.given_up, held);
-        let m = print(out, len, writing, x.readable, kind, line);
+        let m = print(out, len, writing, readable, kind, line);
         if out.len() - len < m {
             return Played {
                 fits: false,
@@ -183,8 +182,8 @@ pub fn play(network: Network, s: &[u8], out: &mut [u8], writing: bool) -> Played
         fits: true,
         network: Network {
             ap_count: n,
-            timeout,
-            resend_limit,
+            timeout: setup.timeout,
+            resend_limit: setup.resend_limit,
             points,
             in_flight: flight,
         },
@@ -206,64 +205,45 @@ fn fits(network: Network, s: &[u8], out: &mut [u8]) -> bool
     p.fits
 }
 
-// 10.
-fn too_short() -> Rehearsed
-    ensures { (number_of result.answer ≡ 10) × (result.len ≡ 0) }
-{
-    Rehearsed {
-        answer: Answer::BufferTooShort,
-        len: 0,
-    }
-}
-
 // Bad set-up or names lines: the names and `? 14 0 0 - -`.
-fn refuse(out: &mut [u8]) -> Rehearsed
+fn refuse(out: &mut [u8]) -> Result<usize, Refusal>
     ensures { rehearsed_from result out.new ≡ written_into (result_names ++ bad_set_up) out.old }
 {
     if out.len() < 51 {
-        return too_short();
+        return Err(Refusal::BufferTooShort);
     }
     put(
         out,
         0,
         b"EVENT ANSWER SENT GIVENUP HELD TABLES\n? 14 0 0 - -\n",
     );
-    Rehearsed {
-        answer: Answer::Accepted,
-        len: 51,
-    }
+    Ok(51)
 }
 
 // The names, and then what the lines of events in s print, on a record to which 14 does not apply.
-fn print_all(network: Network, s: &[u8], out: &mut [u8]) -> Rehearsed
+fn print_all(network: Network, s: &[u8], out: &mut [u8]) -> Result<usize, Refusal>
     requires { valid_network_record network ≡ true }
     ensures { rehearsed_from result out.new ≡ written_into (result_names ++ printed network (lines s.now)) out.old }
 {
     if out.len() < 38 {
-        return too_short();
+        return Err(Refusal::BufferTooShort);
     }
     if !fits(network, s, &mut out[38..]) {
-        return too_short();
+        return Err(Refusal::BufferTooShort);
     }
     put(out, 0, b"EVENT ANSWER SENT GIVENUP HELD TABLES\n");
     let p = play(network, s, &mut out[38..], true);
-    Rehearsed {
-        answer: Answer::Accepted,
-        len: 38 + p.len,
-    }
+    Ok(38 + p.len)
 }
 
-// A whole script, printed at the front of out, whose rest stays: 10 where out is too short for its output, and then all of it stays.
-pub fn rehearse(script: &[u8], out: &mut [u8]) -> Rehearsed
+// A whole script, printed at the front of out, whose rest stays: its length, or 10 where out is too short for its output, and then all of it stays.
+pub fn rehearse(script: &[u8], out: &mut [u8]) -> Result<usize, Refusal>
     ensures out_after { rehearsed_from result out.new ≡ rehearsed_into script.now out.old }
     ensures script_claim { ScriptClaim script.now }
 {
-    let o = script_reader::read_opening(script);
-    if !o.given {
+    let Some(o) = script_reader::read_opening(script) else {
         return refuse(out);
-    }
+    };
     let x = floor_link::set_up(o.aps, o.timeout, o.resends);
-    let network = x.network;
-    let next = o.next;
-    print_all(network, &script[next..], out)
+    print_all(x.network, &script[o.next..], out)
 }

@@ -2,7 +2,5 @@
 pub mod Over
 -- how long the texts are
 pub mod Short
--- a number put
-pub mod Numbers
 -- a whole line
 pub mod Lines

@@ -1,10 +1,7 @@
--- A whole line, put part by part.
+-- The parts of a whole line.
 -- Assumes nothing.
-use Prim.Native.Nat.{ℕ}
-use mathlib.Core.Path.{◌≡◌, refl, sym, ◌∙◌}
-use mathlib.Core.Logic.{◌⊎◌, inl, inr}
-use mathlib.Core.Bool.{Bool, true, false, ◌&&◌}
-use mathlib.Core.List.{List, ◌++◌, append_assoc}
+use Rattle.std.proofs.Common.{◌≡◌, refl, sym, ◌∙◌, ℕ, ◌+◌, List, length, ◌++◌, append_assoc, Bool, true, false, ◌&&◌, ◌⊎◌, inl, inr, Option}
+use Rattle.std.specs.Bool.{then_some}
 use Rattle.lists.specs.Table.{accepts}
 use Rattle.network.specs.Events as floor
 use Rattle.events.specs.declared.Kind.{Kind}
@@ -12,45 +9,33 @@ use Rattle.events.specs.Event.{is_who}
 use Rattle.script.specs.Text.{octets_of}
 use Rattle.script.specs.EventLine.{name_of}
 use Rattle.script.specs.Result.{field, held_fields, result_as}
-use Rattle.script_writer.specs.Held.{held_line}
-use Rattle.script_writer.proofs.Over.{Put, Front, front_then}
+use Rattle.script.specs.Put.{over}
+use Rattle.script_writer.specs.Held.{held_text}
+use Rattle.script_writer.proofs.Over.{Written, put_first, put_next}
 
--- HELD and TABLES are all that they tell
-held_alone : (t : Bool) (l : floor.Line) → held_fields t (held_line l.held l.tables) ≡ held_fields t l
+-- HELD and TABLES where a test passes
+held_where : (t : Bool) (l : floor.Line) → held_text (then_some t (l.held, l.tables)) ≡ held_fields t l
 unfolding held_fields
-held_alone true l = refl
-held_alone false l = refl
+held_where true l = refl
+held_where false l = refl
 
--- the parts of a line
 parts : (k : Kind) (l : floor.Line) (n : ℕ) (t : Bool) → n ≡ l.answer → t ≡ is_who k && accepts n
-    → result_as k l ≡ name_of k ++ field n ++ field l.sent ++ field l.given_up ++ held_fields t (held_line l.held l.tables) ++ octets_of "\n"
+    → result_as k l ≡ name_of k ++ field n ++ field l.sent ++ field l.given_up ++ held_text (then_some t (l.held, l.tables)) ++ octets_of "\n"
 unfolding result_as
-parts k l n t en et = rw (held_alone t l, et, en) (simp append_assoc)
+parts k l n t en et = rw (held_where t l, et, en) (simp append_assoc)
 
 -- a test and another, that is looked at only where the first passes
 pub both : (k : Kind) (n : ℕ) (q t : Bool) → q ≡ is_who k → ((q ≡ true) × (t ≡ accepts n)) ⊎ ((q ≡ false) × (t ≡ q)) → t ≡ is_who k && accepts n
-both k n q t e (inl w) = by (is_who k) (sym e ∙ w.0) w.1
-  where
-    by : (p : Bool) → p ≡ true → t ≡ accepts n → t ≡ p && accepts n
-    by p f g = rw f g
-both k n q t e (inr w) = by (is_who k) (sym e ∙ w.0) (w.1 ∙ w.0)
-  where
-    by : (p : Bool) → p ≡ false → t ≡ false → t ≡ p && accepts n
-    by p f g = rw f g
+both k n q t e (inl w) = rw (sym e ∙ w.0) w.1
+both k n q t e (inr w) = rw (sym e ∙ w.0) (w.1 ∙ w.0)
 
-pub result_put : (k : Kind) (l : floor.Line) (n : ℕ) (t : Bool) (z x y g h e m : List ℕ) (a b c d i r : ℕ)
-    → n ≡ l.answer → t ≡ is_who k && accepts n
-    → Front (name_of k) z x a → Put a (field n) x y b → Put b (field l.sent) y g c → Put c (field l.given_up) g h d
-    → Put d (held_fields t (held_line l.held l.tables)) h e i → Put i (octets_of "\n") e m r
-    → Front (result_as k l) z m r
-result_put k l n t z x y g h e m a b c d i r en et ek ea es eg eh el =
-    let v : List ℕ = name_of k in
-    let o : List ℕ = field n in
-    let s : List ℕ = field l.sent in
-    let u : List ℕ = field l.given_up in
-    let w : List ℕ = held_fields t (held_line l.held l.tables) in
-    let f₁ = front_then a b v o z x y ek ea in
-    let f₂ = front_then b c (v ++ o) s z y g f₁ es in
-    let f₃ = front_then c d (v ++ o ++ s) u z g h f₂ eg in
-    let f₄ = front_then d i (v ++ o ++ s ++ u) w z h e f₃ eh in
-    rw (parts k l n t en et) (front_then i r (v ++ o ++ s ++ u ++ w) (octets_of "\n") z e m f₄ el)
+-- the parts put one after the other
+pub line_written : (k : Kind) (l : floor.Line) {n : ℕ} {t : Bool} {v : List ℕ} {h : Option (ℕ × ℕ)} {b o₁ o₂ o₃ o₄ o₅ o₆ : List ℕ} {n₁ n₂ n₃ n₄ n₅ n₆ : ℕ}
+    → n ≡ l.answer → t ≡ is_who k && accepts n → v ≡ name_of k → h ≡ then_some t (l.held, l.tables)
+    → n₁ ≡ 0 + length v → o₁ ≡ over 0 v b → n₂ ≡ n₁ + length (field n) → o₂ ≡ over n₁ (field n) o₁
+    → n₃ ≡ n₂ + length (field l.sent) → o₃ ≡ over n₂ (field l.sent) o₂ → n₄ ≡ n₃ + length (field l.given_up) → o₄ ≡ over n₃ (field l.given_up) o₃
+    → n₅ ≡ n₄ + length (held_text h) → o₅ ≡ over n₄ (held_text h) o₄ → n₆ ≡ n₅ + 1 → o₆ ≡ over n₅ (octets_of "\n") o₅
+    → Written (result_as k l) b o₆ n₆
+line_written k l {n = n} {t = t} en et ev eh e₁ f₁ e₂ f₂ e₃ f₃ e₄ f₄ e₅ f₅ e₆ f₆ =
+    let z = put_next _ _ _ (put_next _ _ _ (put_next _ _ _ (put_next _ _ _ (put_next _ _ _ (put_first _ _ _ _ e₁ f₁) e₂ f₂) e₃ f₃) e₄ f₄) e₅ f₅) e₆ f₆ in
+    rw (parts k l n t en et, ← ev, ← eh) z

@@ -1,6 +1,8 @@
--- A line of which only HELD and TABLES are told.
-use Rattle.std.specs.Prelude.{ℕ}
-use Rattle.network.specs.Events.{Line}
+-- HELD and TABLES, where they are told.
+use Rattle.std.specs.Prelude.{ℕ, List, ◌++◌, Option, None, Some}
+use Rattle.script.specs.Text.{octets_of}
+use Rattle.script.specs.Result.{field}
 
-abbrev pub held_line : ℕ → ℕ → Line
-held_line held tables = record { answer = 0; sent = 0; given_up = 0; held = held; tables = tables }
+abbrev pub held_text : Option (ℕ × ℕ) → List ℕ
+held_text None = octets_of " - -"
+held_text (Some p) = field p.0 ++ field p.1

@@ -1,2 +1,2 @@
--- a line that tells HELD and TABLES alone
+-- HELD and TABLES
 pub mod Held

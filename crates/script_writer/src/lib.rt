@@ -4,105 +4,107 @@
 ghost use Rattle.std.specs.Prelude.{◌≡◌, ◌+◌, ◌≤◌, length};
 ghost use Rattle.script.specs.Put.{over, front};
 ghost use Rattle.script.specs.Fields.{digit};
-ghost use Rattle.script.specs.EventLine.{name_of};
-ghost use Rattle.script.specs.Result.{unreadable, field, held_fields, result_as};
+ghost use Rattle.script.specs.Result.{unreadable, field, result_as};
 ghost use Rattle.floor_link.specs.Answered.{line_from};
-ghost use Rattle.script_writer.specs.Held.{held_line};
+ghost use Rattle.script_writer.specs.Held.{held_text};
 
 use events::Kind;
 use floor_link::Line;
 
-// Puts a text at `at`, and returns the place after it.
-fn put(line: &mut [u8], at: usize, text: &[u8]) -> usize
-    requires { at + length text.now ≤ length line.old }
-    ensures value { result ≡ at + length text.now }
-    ensures line_after { line.new ≡ over at text.now line.old }
-{
-    let mut i: usize = 0;
-    while i < text.len() {
-        line[at + i] = text[i];
-        i += 1;
-    }
-    at + text.len()
+// A lent array, of which the first `len` octets are written.
+#[derive(Drop)]
+struct Text<'a> {
+    octets: &'a mut [u8; 32],
+    len: usize,
 }
 
+impl Text<'_> {
+    // Puts a text after what is written.
+    fn put(&mut self, text: &[u8])
+        requires { self.old.len + length text.now ≤ 32 }
+        ensures len_after { self.new.len ≡ self.old.len + length text.now }
+        ensures octets_after { self.new.octets.now ≡ over self.old.len text.now self.old.octets.now }
+        ensures same_array { self.new.octets.ghost_name ≡ self.old.octets.ghost_name }
+    {
+        let at = self.len;
+        let end = at + text.len();
+        let octets = &mut self.octets[..];
+        octets[at..end].copy_from_slice(text);
+        self.len = end;
+    }
+
+    // Puts a blank and a number.
+    #[tactic(auto, unfolding(script::specs::Result::field, script::specs::Fields::decimal))]
+    fn put_number(&mut self, n: u8)
+        requires { self.old.len + 4 ≤ 32 }
+        ensures len_after { self.new.len ≡ self.old.len + length (field n) }
+        ensures octets_after { self.new.octets.now ≡ over self.old.len (field n) self.old.octets.now }
+        ensures same_array { self.new.octets.ghost_name ≡ self.old.octets.ghost_name }
+    {
+        if n < 10 {
+            self.put(&[b' ', digit_of(n)]);
+        } else if n < 100 {
+            self.put(&[b' ', digit_of(n / 10), digit_of(n)]);
+        } else {
+            self.put(&[b' ', digit_of(n / 100), digit_of(n / 10), digit_of(n)]);
+        }
+    }
+
+    // Puts HELD and TABLES, or ` - -` where there are none to tell.
+    #[tactic(auto, using(crate::proofs::Short::field_short))]
+    fn put_held(&mut self, held: Option<(u8, u8)>)
+        requires { self.old.len + 8 ≤ 32 }
+        ensures len_after { self.new.len ≡ self.old.len + length (held_text held) }
+        ensures octets_after { self.new.octets.now ≡ over self.old.len (held_text held) self.old.octets.now }
+        ensures same_array { self.new.octets.ghost_name ≡ self.old.octets.ghost_name }
+    {
+        match held {
+            Some((held, tables)) => {
+                self.put_number(held);
+                self.put_number(tables);
+            }
+            None => self.put(b" - -"),
+        }
+    }
+}
+
+#[tactic(auto, unfolding(script::specs::Fields::digit))]
 fn digit_of(n: u8) -> u8
     ensures { result ≡ digit n }
 {
     b'0' + n % 10
 }
 
-// Puts a blank and a number.
-fn put_number(line: &mut [u8], at: usize, n: u8) -> usize
-    requires { at + 4 ≤ length line.old }
-    ensures value { result ≡ at + length (field n) }
-    ensures line_after { line.new ≡ over at (field n) line.old }
-{
-    line[at] = b' ';
-    if n < 10 {
-        line[at + 1] = digit_of(n);
-        return at + 2;
-    }
-    if n < 100 {
-        line[at + 1] = digit_of(n / 10);
-        line[at + 2] = digit_of(n);
-        return at + 3;
-    }
-    line[at + 1] = digit_of(n / 100);
-    line[at + 2] = digit_of(n / 10);
-    line[at + 3] = digit_of(n);
-    at + 4
-}
-
-// Puts the event's name at the front.
-fn put_name(line: &mut [u8], kind: Kind) -> usize
-    requires { 7 ≤ length line.old }
-    ensures value { result ≡ length (name_of kind) }
-    ensures line_after { line.new ≡ front (name_of kind) line.old }
-{
-    match kind {
-        Kind::Join => put(line, 0, b"join"),
-        Kind::Leave => put(line, 0, b"leave"),
-        Kind::Deliver => put(line, 0, b"deliver"),
-        Kind::Repeat => put(line, 0, b"repeat"),
-        Kind::Lose => put(line, 0, b"lose"),
-        Kind::Tick => put(line, 0, b"tick"),
-        Kind::Who => put(line, 0, b"who"),
-    }
-}
-
-// Puts HELD and TABLES, or ` - -` where there are none to tell.
-fn put_held(line: &mut [u8], at: usize, told: bool, held: u8, tables: u8) -> usize
-    requires { at + 8 ≤ length line.old }
-    ensures value { result ≡ at + length (held_fields told (held_line held tables)) }
-    ensures line_after { line.new ≡ over at (held_fields told (held_line held tables)) line.old }
-{
-    if !told {
-        return put(line, at, b" - -");
-    }
-    let next = put_number(line, at, held);
-    put_number(line, next, tables)
-}
-
 // EVENT ANSWER SENT GIVENUP HELD TABLES, of an event of this kind.
+#[tactic(auto, using(crate::proofs::Short::field_short, crate::proofs::Short::name_short, crate::proofs::Short::text_short))]
 pub fn result(line: &mut [u8; 32], kind: Kind, l: Line) -> usize
     ensures value { result ≡ length (result_as kind (line_from l)) }
     ensures line_after { line.new ≡ front (result_as kind (line_from l)) line.old }
 {
-    let answer = l.answer;
-    let n = answers::number(answer);
-    let a = put_name(line, kind);
-    let b = put_number(line, a, n);
-    let c = put_number(line, b, l.sent);
-    let d = put_number(line, c, l.given_up);
-    let e = put_held(line, d, events::is_who(kind) && n == 0, l.held, l.tables);
-    put(line, e, b"\n")
+    let n = answers::number(l.answer);
+    let mut text = Text {
+        octets: line,
+        len: 0,
+    };
+    text.put(script_fields::name(kind));
+    text.put_number(n);
+    text.put_number(l.sent);
+    text.put_number(l.given_up);
+    text.put_held((events::is_who(kind) && n == 0).then_some((l.held, l.tables)));
+    text.put(b"\n");
+    text.len
 }
 
 // The line of an unreadable one.
+#[tactic(auto, unfolding(script::specs::Result::unreadable))]
 pub fn unreadable_line(line: &mut [u8; 32]) -> usize
     ensures value { result ≡ length unreadable }
     ensures line_after { line.new ≡ front unreadable line.old }
 {
-    put(line, 0, b"? 18 0 0 - -\n")
+    let mut text = Text {
+        octets: line,
+        len: 0,
+    };
+    text.put(b"? 18 0 0 - -\n");
+    text.len
 }

@@ -9,7 +9,7 @@ use native.Mathlib.Nat.{zero-add, add-zero}
 use native.Mathlib.Numerals.{add-one}
 use borrow.Author.Tests.{eq-eqb, ne_eqb}
 use lib.Dec.{eqb}
-use lib.ListN.{length, take, get_or, set, length-map}
+use lib.ListN.{length, take, get_or, length-map, length-take}
 use lib.Seq.{length-take-le, take-suc}
 use Rattle.elements.specs.declared.InFlight.{InFlight}
 use Rattle.elements.specs.declared.Move.{Move}
@@ -19,6 +19,7 @@ use Rattle.machine.specs.AccessPoint.{add_notifies}
 use Rattle.record.specs.Lens.{named}
 use Rattle.in_flight.specs.declared.Outbox.{Outbox}
 use Rattle.in_flight.specs.Post.{outbox_of}
+use Rattle.sending.specs.Sends.{pushed}
 use Rattle.sending.proofs.Outboxes.{outbox_count, outbox_more}
 
 -- the packets of an announcement
@@ -63,42 +64,30 @@ module _ (b : ℕ) (p : Packet) where
       go true h = omega arith
       go false h = omega arith
 
--- the same packet with another receiver
+-- the same packet to the AP t
 abbrev pub sent_to : ℕ → InFlight → InFlight
 sent_to t p = record { from = p.from; to = t; len = p.len; octets = p.octets }
 
--- the loop of AP b holds the packet w, to whatever AP, and has put p's copies to the first i APs into the outbox o
-abbrev pub Announced : ℕ → Packet → InFlight → Outbox → ℕ → Type 0
-Announced b p w o i = ((t : ℕ) → sent_to t w ≡ carried b (record { to = t; packet = p })) × (o ≡ outbox_of (map (carried b) (add_notifies b p 0 i)))
+-- what AP b announces with p to the first i APs, as it is carried
+abbrev pub announced : ℕ → Packet → ℕ → List InFlight
+announced b p i = map (carried b) (add_notifies b p 0 i)
 
-module _ (b : ℕ) (p : Packet) (w : InFlight) (o : Outbox) where
-  pub announced_none : w ≡ carried b (record { to = 0; packet = p }) → o ≡ outbox_of [] → Announced b p w o 0
-  unfolding carried add_notifies
-  announced_none e f = ((λ t. ap (sent_to t) e), f)
+module _ (b : ℕ) (p : Packet) (o : Outbox) (i : ℕ) (h : o ≡ outbox_of (announced b p i)) where
+  pub announced_few : o.count ≤ i
+  announced_few = omega (arith, outbox_count o (announced b p i) h, length-map (add_notifies b p 0 i) (carried b), notifies_few b p 0 i)
 
-  module _ (i : ℕ) (h : Announced b p w o i) where
-    pub announced_few : o.count ≤ i
-    announced_few =
-        omega (arith, outbox_count o (map (carried b) (add_notifies b p 0 i)) h.1, length-map (add_notifies b p 0 i) (carried b), notifies_few b p 0 i)
+  -- the AP itself is left out
+  pub announced_own : i ≡ b → o ≡ outbox_of (announced b p (i + 1))
+  announced_own e = h ∙ ap (λ (l : List Outgoing). outbox_of (map (carried b) l)) (sym (notifies_own b p i e))
 
-    -- the AP itself is left out
-    pub announced_own : (v : InFlight) (r : Outbox) → i ≡ b → v ≡ w → r ≡ o → Announced b p v r (i + 1)
-    announced_own v r e f g =
-        ((λ t. ap (sent_to t) f ∙ h.0 t), g ∙ h.1 ∙ ap (λ (l : List Outgoing). outbox_of (map (carried b) l)) (sym (notifies_own b p i e)))
-
-    -- every other gets a copy
-    pub announced_other : (v : InFlight) (r : Outbox) → (i ≡ b → ⊥) → i < 8 → v ≡ sent_to i w
-        → r ≡ record { items = set o.items o.count (sent_to i w); count = o.count + 1 } → Announced b p v r (i + 1)
-    announced_other v r n l f g =
-        let sent : List InFlight = map (carried b) (add_notifies b p 0 i) in
-        let c = outbox_count o sent h.1 in (
-          (λ t. ap (sent_to t) f ∙ h.0 t),
-          g
-              ∙ outbox_more o sent (sent_to i w) o.count h.1 c (omega (arith, announced_few))
-              ∙ ap (λ (z : InFlight). outbox_of (sent ++ (z ∷ []))) (h.0 i)
-              ∙ ap outbox_of (sym (map-append (carried b) (add_notifies b p 0 i) (record { to = i; packet = p } ∷ [])))
-              ∙ ap (λ (l : List Outgoing). outbox_of (map (carried b) l)) (sym (notifies_other b p i n)),
-        )
+  -- every other gets a copy
+  pub announced_other : (i ≡ b → ⊥) → i < 8 → (w : InFlight) → w ≡ carried b (record { to = 0; packet = p }) → pushed (sent_to i w) o ≡ outbox_of (announced b p (i + 1))
+  unfolding carried
+  announced_other n l w f =
+      outbox_more o (announced b p i) (sent_to i w) h (omega (arith, announced_few, outbox_count o (announced b p i) h))
+      ∙ ap (λ (z : InFlight). outbox_of (announced b p i ++ (sent_to i z ∷ []))) f
+      ∙ ap outbox_of (sym (map-append (carried b) (add_notifies b p 0 i) (record { to = i; packet = p } ∷ [])))
+      ∙ ap (λ (l : List Outgoing). outbox_of (map (carried b) l)) (sym (notifies_other b p i n))
 
 -- the notices of moves
 
@@ -121,13 +110,15 @@ pub notices_next : (b : ℕ) (ms : List Move) (i : ℕ) (d : Move) → i < lengt
     → notices_from b (take (i + 1) ms) ≡ notices_from b (take i ms) ++ (carried b (notice_of (named (get_or ms i d))) ∷ [])
 notices_next b ms i d l = rw (add-one i, take-suc ms i d l) (notices_last b (take i ms) (get_or ms i d))
 
+pub resent_few : (b : ℕ) (ms : List Move) (i : ℕ) (o : Outbox) → o ≡ outbox_of (notices_from b (take i ms)) → o.count ≤ i
+resent_few b ms i o e = omega (arith, outbox_count o (notices_from b (take i ms)) e, notices_count b (take i ms), length-take i ms)
+
 -- a loop over the moves ms has put the notices of the first i into the outbox o, and puts down the next
 pub resent_more : (b : ℕ) (ms : List Move) (i : ℕ) (o : Outbox) (x : InFlight) (m d : Move) → i < length ms → length ms ≤ 8
     → o ≡ outbox_of (notices_from b (take i ms)) → get_or ms i d ≡ m → x ≡ carried b (notice_of (named m))
-    → record { items = set o.items i x; count = i + 1 } ≡ outbox_of (notices_from b (take (i + 1) ms))
+    → pushed x o ≡ outbox_of (notices_from b (take (i + 1) ms))
 resent_more b ms i o x m d l h e f g =
     let sent : List InFlight = notices_from b (take i ms) in
-    let n : i ≡ length sent = omega (arith, notices_count b (take i ms), length-take-le i ms (omega arith)) in
-    outbox_more o sent x i e n (omega arith)
+    outbox_more o sent x e (omega (arith, notices_count b (take i ms), length-take-le i ms (omega arith)))
     ∙ ap (λ (z : InFlight). outbox_of (sent ++ (z ∷ []))) (g ∙ ap (λ (m : Move). carried b (notice_of (named m))) (sym f))
     ∙ ap outbox_of (sym (notices_next b ms i d l))

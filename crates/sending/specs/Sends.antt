@@ -1,8 +1,25 @@
--- The packets that an access point sends of its own accord, and what the writer asks of a move's notice.
-use Rattle.std.specs.Prelude.{ℕ, Bool, leb}
+-- The packets that an access point sends of its own accord, and what the writer asks of a packet and of a move's notice.
+use Rattle.std.specs.Prelude.{ℕ, ◌+◌, ◌≤◌, Bool, leb, length, set}
+use Rattle.packet.specs.Fields.{Fields}
+use Rattle.writer.specs.Write.{octets_of}
+use Rattle.elements.specs.declared.InFlight.{InFlight}
 use Rattle.elements.specs.declared.Move.{Move}
 use Rattle.machine.specs.Stations.{Station}
+use Rattle.machine.specs.Associations.{padded}
 use Rattle.machine.specs.Packets.{Packet, add_notify, move_notify, Outgoing}
+use Rattle.in_flight.specs.declared.Outbox.{Outbox}
+
+-- the packets o and p after them
+abbrev pub pushed : InFlight → Outbox → Outbox
+pushed p o = record { items = set o.items o.count p; count = o.count + 1 }
+
+-- the writer refuses such a packet only for a short buffer
+abbrev pub IsWithin : Fields → Type 0
+IsWithin f = (f.sequence ≤ 4095) × (f.status ≤ 1) × (length f.context ≤ 64)
+
+-- a packet with these fields as it is carried: its octets, and zeros to the end of the array
+abbrev pub sent_as : ℕ → ℕ → Fields → InFlight
+sent_as from to f = record { from = from; to = to; len = length (octets_of f); octets = padded 82 (octets_of f) }
 
 -- "one ADD-notify with the next identifier"
 abbrev pub add_packet : ℕ → Station → ℕ → Packet

@@ -1,15 +1,17 @@
 // What an access point sends: its packets written for the way, in order of sending.
 #![tactic(auto)]
 
-ghost use Rattle.std.specs.Prelude.{◌≡◌, true, [], ◌∷◌, map, ◌≤◌, take};
+ghost use Rattle.std.specs.Prelude.{◌≡◌, true, [], ◌∷◌, map, ◌≤◌, ◌<◌};
 ghost use Rattle.lists.specs.Places.{every};
+ghost use Rattle.packet.specs.Fields.{fields_of};
 ghost use Rattle.machine.specs.Moves.{notices_of};
-ghost use Rattle.machine.specs.Packets.{carried, message_of};
+ghost use Rattle.machine.specs.Packets.{carried};
 ghost use Rattle.machine.specs.AccessPoint.{add_notifies, answer_to};
 ghost use Rattle.moves.specs.Asked.{asked};
 ghost use Rattle.record.specs.Lens.{get_moves, named};
+ghost use Rattle.receiving.specs.Receive.{IsShort, message_in};
 ghost use Rattle.in_flight.specs.Post.{outbox_of};
-ghost use Rattle.sending.specs.Sends.{add_packet, notify_to, sequence_within};
+ghost use Rattle.sending.specs.Sends.{pushed, IsWithin, sent_as, add_packet, notify_to, sequence_within};
 
 use elements::InFlight;
 use in_flight::Outbox;
@@ -19,85 +21,74 @@ use receiving::Reply;
 use record::Moves;
 
 // Nothing sent.
+#[tactic(auto, unfolding(in_flight::specs::Post::outbox_of, record::specs::Slots::over))]
 pub fn nothing() -> Outbox
     ensures { result ≡ outbox_of [] }
 {
-    let b = in_flight::blank();
     Outbox {
-        items: [b; 8],
+        items: [in_flight::blank(); 8],
         count: 0,
     }
 }
 
+// One more packet sent, last.
+fn push(out: &mut Outbox, p: InFlight)
+    requires { out.old.count < 8 }
+    ensures { out.new ≡ pushed p out.old }
+{
+    out.items[out.count] = p;
+    out.count += 1;
+}
+
 // One packet sent.
+#[tactic(auto, using(crate::proofs::Outboxes::outbox_none, crate::proofs::Outboxes::outbox_one))]
 pub fn one(p: InFlight) -> Outbox
     ensures { result ≡ outbox_of (p ∷ []) }
 {
     let mut out = nothing();
-    out.items[0] = p;
-    out.count = 1;
+    push(&mut out, p);
     out
 }
 
-// An ADD-notify from one AP to another.
-fn add_notify(from: u8, to: u8, identifier: u16, station: [u8; 6], sequence: u16) -> InFlight
-    requires { sequence ≤ 4095 }
-    ensures { result ≡ carried from (record { to = to; packet = add_packet identifier station sequence }) }
+// A packet on its way from one AP to another, with its context block: what is written stands at the front of 82 octets.
+fn send(from: u8, to: u8, p: Packet, context: &[u8]) -> InFlight
+    requires { IsWithin (fields_of p context.now) }
+    ensures { result ≡ sent_as from to (fields_of p context.now) }
 {
-    let p = Packet {
-        command: Command::AddNotify,
-        identifier,
-        status: 0,
-        station,
-        sequence,
-    };
-    let context = [0u8; 1];
-    let mut octets = [0u8; 82];
-    let w = writer::write(p, &context[..0], &mut octets);
+    let mut octets = [0; 82];
+    let len = writer::write(p, context, &mut octets).unwrap();
     InFlight {
         from,
         to,
-        len: w.len,
+        len,
         octets,
     }
 }
 
 // A MOVE-notify from one AP to another, with no context.
+#[tactic(auto, unfolding(machine::specs::Packets::carried, machine::specs::Packets::written, machine::specs::Packets::fields_as))]
 pub fn move_notify(from: u8, to: u8, identifier: u16, station: [u8; 6], sequence: u16) -> InFlight
     requires { sequence ≤ 4095 }
     ensures { result ≡ carried from (notify_to to identifier station sequence) }
 {
-    let p = Packet {
+    let notify = Packet {
         command: Command::MoveNotify,
         identifier,
         status: 0,
         station,
         sequence,
     };
-    let context = [0u8; 1];
-    let mut octets = [0u8; 82];
-    let w = writer::write(p, &context[..0], &mut octets);
-    InFlight {
-        from,
-        to,
-        len: w.len,
-        octets,
-    }
+    send(from, to, notify, &[])
 }
 
 // The answer to the packet r, back to its sender.
+#[tactic(auto, using(crate::proofs::Carried::reply_within))]
 pub fn response(from: u8, to: u8, r: Received, reply: Reply) -> InFlight
-    requires { (reply.len ≤ 64) × (r.sequence ≤ 4095) }
-    ensures { result ≡ carried from (answer_to to (asked r.identifier r.station r.sequence) (message_of 2 reply.status (take reply.len reply.context))) }
+    requires { IsShort reply × (r.sequence ≤ 4095) }
+    ensures { result ≡ carried from (answer_to to (asked r.identifier r.station r.sequence) (message_in reply)) }
 {
-    let mut octets = [0u8; 82];
-    let w = access_point::write_reply(r, reply, &mut octets);
-    InFlight {
-        from,
-        to,
-        len: w.len,
-        octets,
-    }
+    let (p, context) = access_point::response(r, &reply);
+    send(from, to, p, context)
 }
 
 // The announcement of a station that joined AP `own` of ap_count: one ADD-notify to every other AP, in rising number. All copies have the
@@ -106,17 +97,19 @@ pub fn announce(own: u8, ap_count: u8, identifier: u16, station: [u8; 6], sequen
     requires { (sequence ≤ 4095) × (ap_count ≤ 8) }
     ensures { result ≡ outbox_of (map (carried own) (add_notifies own (add_packet identifier station sequence) 0 ap_count)) }
 {
-    let mut p = add_notify(own, 0, identifier, station, sequence);
+    let add = Packet {
+        command: Command::AddNotify,
+        identifier,
+        status: 0,
+        station,
+        sequence,
+    };
+    let p = send(own, 0, add, &[]);
     let mut out = nothing();
-    let mut i: u8 = 0;
-    while i < ap_count {
-        if i != own {
-            p.to = i;
-            let k = out.count;
-            out.items[k] = p;
-            out.count = k + 1;
+    for to in 0..ap_count {
+        if to != own {
+            push(&mut out, InFlight { to, ..p });
         }
-        i += 1;
     }
     out
 }
@@ -126,16 +119,11 @@ pub fn resend(own: u8, due: Moves) -> Outbox
     requires { (due.count ≤ 8) × (every sequence_within (get_moves due) ≡ true) }
     ensures { result ≡ outbox_of (map (carried own) (notices_of (map named (get_moves due)))) }
 {
-    let n = due.count;
+    let moves = &due.items[..due.count];
     let mut out = nothing();
-    let mut i: usize = 0;
-    while i < n {
-        let m = due.items[i];
-        let station = m.station;
-        let p = move_notify(own, m.old, m.identifier, station, m.sequence);
-        out.items[i] = p;
-        out.count = i + 1;
-        i += 1;
+    for m in moves {
+        let p = move_notify(own, m.old, m.identifier, m.station, m.sequence);
+        push(&mut out, p);
     }
     out
 }

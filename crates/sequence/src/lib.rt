@@ -9,9 +9,6 @@ ghost use Rattle.sequence.specs.Distance.{newer_of};
 pub fn newer(n: u16, m: u16) -> bool
     ensures { result ≡ newer_of n m }
 {
-    let d = std::num::wrapping_sub_u16(n, m) % 4096;
-    if d == 0 {
-        return false;
-    }
-    d < 2048
+    let d = n.wrapping_sub(m) % 4096;
+    0 < d && d < 2048
 }

@@ -1,9 +1,10 @@
 // Packets over slices.
 ghost use Rattle.std.specs.Prelude.{◌≡◌};
 ghost use Rattle.reader.specs.Read.{read_of};
-ghost use Rattle.skelmarith.specs.Packets.{reading_in, writing_in, write_as};
+ghost use Rattle.skelmarith.specs.Packets.{reading_in, Tells, writing_in, write_as};
 
-use packet::Packet;
+use answers::Refusal;
+use packet::{Command, Packet};
 
 // What reading a packet finds, in numbers. The context block is the part of the packet from octet `start` on, of `len` octets.
 #[repr(C)]
@@ -27,15 +28,41 @@ pub struct Written {
     pub len: usize,
 }
 
+impl From<Result<usize, Refusal>> for Written {
+    ghost from_gives = { Tells };
+
+    fn from(written: Result<usize, Refusal>) -> Written {
+        match written {
+            Ok(len) => Written { answer: 0, len },
+            Err(refusal) => Written {
+                answer: u8::from(refusal),
+                len: 0,
+            },
+        }
+    }
+}
+
 // Reads a packet: 1 to 9; refused, every other number is 0.
 #[unsafe(no_mangle)]
 pub extern "C" fn skel_read(packet: &[u8]) -> Reading
     ensures { reading_in result ≡ read_of packet.now }
 {
-    let answer = reader::answer(packet);
-    if answers::number(answer) != 0 {
-        return Reading {
-            answer: answers::number(answer),
+    match reader::read(packet) {
+        Ok(r) => {
+            let station = r.station;
+            Reading {
+                answer: 0,
+                command: u8::from(r.command),
+                identifier: r.identifier,
+                status: r.status,
+                station,
+                sequence: r.sequence,
+                start: r.start,
+                len: r.len,
+            }
+        }
+        Err(refusal) => Reading {
+            answer: u8::from(refusal),
             command: 0,
             identifier: 0,
             status: 0,
@@ -43,20 +70,7 @@ pub extern "C" fn skel_read(packet: &[u8]) -> Reading
             sequence: 0,
             start: 0,
             len: 0,
-        };
-    }
-    let r = reader::fields(packet);
-    let command = r.command;
-    let station = r.station;
-    Reading {
-        answer: 0,
-        command: packet::octet(command),
-        identifier: r.identifier,
-        status: r.status,
-        station,
-        sequence: r.sequence,
-        start: r.start,
-        len: r.len,
+        },
     }
 }
 
@@ -73,21 +87,18 @@ pub extern "C" fn skel_write(
 ) -> Written
     ensures { writing_in result buffer.new ≡ write_as command identifier status station.now sequence context.now buffer.old }
 {
-    if 2 < command {
-        return Written { answer: 3, len: 0 };
-    }
-    let s = *station;
-    let p = Packet {
-        command: reader::command_of(command),
-        identifier,
-        status,
-        station: s,
-        sequence,
-    };
-    let w = writer::write(p, context, buffer);
-    let answer = w.answer;
-    Written {
-        answer: answers::number(answer),
-        len: w.len,
+    match Command::try_from(command) {
+        Ok(command) => {
+            let station = *station;
+            let p = Packet {
+                command,
+                identifier,
+                status,
+                station,
+                sequence,
+            };
+            Written::from(writer::write(p, context, buffer))
+        }
+        Err(refusal) => Written::from(Err(refusal)),
     }
 }

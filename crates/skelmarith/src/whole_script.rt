@@ -12,10 +12,5 @@ pub extern "C" fn skel_rehearse(script: &[u8], out: &mut [u8]) -> Written
     ensures out_after { rehearsed_in result out.new ≡ rehearsed_into script.now out.old }
     ensures script_claim { ScriptClaim script.now }
 {
-    let r = script_runner::rehearse(script, out);
-    let answer = r.answer;
-    Written {
-        answer: answers::number(answer),
-        len: r.len,
-    }
+    Written::from(script_runner::rehearse(script, out))
 }

@@ -1,12 +1,13 @@
 -- What the writer's copies make of the buffer is the definition's.
 -- Assumes nothing.
-use Prim.Native.Nat.{ℕ, ◌+◌, ◌-◌, ◌≤◌}
+use Prim.Native.Nat.{ℕ, ◌+◌, ◌-◌, ◌≤◌, ◌<◌, ◌/◌, ◌%◌}
+use native.Mathlib.Omega.{arith}
 use mathlib.Core.Path.{◌≡◌, refl, sym, ap, ◌∙◌}
 use mathlib.Core.List.{List, [], ◌++◌, append_assoc}
 use borrow.Author.Tests.{le-ltb, ne_eqb}
 use lib.ListN.{length, take, drop}
 use Rattle.lists.proofs.Copies.{placed}
-use Rattle.lists.proofs.Fronts.{exact_ind}
+use Rattle.lists.proofs.Fronts.{exact_ind, six_cons}
 use Rattle.packet.specs.Fields.{Fields}
 use Rattle.writer.specs.Write.{front_of, octets_of, writer_tests, write_to}
 
@@ -53,3 +54,9 @@ move_written c t i s q x b y l m hc hs hq ht hx hb ey el em =
     let g : take 18 l ++ (m ++ drop (length l - 18) (drop 18 l)) ≡ octets_of (move_fields c t i s q x) ++ D =
     placed 18 y x b l m n el em ∙ sym (append_assoc y x D) ∙ ap (λ (r : List ℕ). r ++ x ++ D) ey ∙ ap (λ (r : List ℕ). r ++ D) (move_octets c t i s q x hc hs) in
     simp (g, ne_eqb c 0 hc, le-ltb 4095 q hq, le-ltb 1 t ht, le-ltb 64 (length x) hx, le-ltb (length b) (18 + length x) hb)
+
+-- a number of two octets has nothing above them
+pub high_octet : (n : ℕ) → n < 65536 → n / 256 % 256 ≡ n / 256
+high_octet n h = omega arith
+
+pub ruleset of_front = (append_assoc, six_cons, high_octet)

@@ -1,11 +1,11 @@
 -- Document 01, "Packets" and the writer's refusals: the octets of a packet, and what writing them gives.
-use Rattle.std.specs.Prelude.{ℕ, List, [], ◌∷◌, ◌++◌, cond, length, drop, ltb}
+use Rattle.std.specs.Prelude.{ℕ, List, [], ◌∷◌, ◌++◌, cond, length, drop, ltb, Result, Ok, Err}
 use Rattle.lists.specs.Table.{Test, first_of, accepts}
-use Rattle.answers.specs.Numbers.{number_of}
+use Rattle.answers.specs.declared.Refusal.{Refusal}
+use Rattle.answers.specs.Numbers.{refusal_number}
 use Rattle.packet.specs.Octets.{two}
 use Rattle.packet.specs.Layout.{is_add, size_of}
 use Rattle.packet.specs.Fields.{Fields}
-use Rattle.writer.specs.declared.Written.{Written}
 
 -- header, Address Length, Reserved or Status, MAC and Sequence. "Reserved is written 00": t is 0 there
 abbrev pub start_of : ℕ → ℕ → ℕ → ℕ → List ℕ → ℕ → List ℕ
@@ -40,8 +40,10 @@ pub record Writing : Type 0 where
   pub len : ℕ
   pub buffer : List ℕ
 
-abbrev pub writing_of : Written → List ℕ → Writing
-writing_of r b = record { answer = number_of r.answer; len = r.len; buffer = b }
+-- how many octets were written, or the refusal
+abbrev pub writing_of : Result ℕ Refusal → List ℕ → Writing
+writing_of (Ok n) b = record { answer = 0; len = n; buffer = b }
+writing_of (Err r) b = record { answer = refusal_number r; len = 0; buffer = b }
 
 -- "The writer fills the front of the lent buffer, leaves the rest, and returns the length"; refused, the buffer is as it came
 unfoldable pub write_to : Fields → List ℕ → Writing

@@ -2,136 +2,95 @@
 #![tactic(auto)]
 
 ghost use Rattle.std.specs.Prelude.{◌≡◌, []};
-ghost use Rattle.packet.specs.Fields.{fields_of};
+ghost use Rattle.packet.specs.Fields.{octet_of, fields_of};
 ghost use Rattle.writer.specs.Write.{front_of, writing_of, write_to};
 
-use answers::Answer;
+use answers::Refusal;
 use packet::{Command, Packet};
 
-// What the writer answers: the number of octets written, 0 where it refuses.
-#[derive(Clone, Copy)]
-pub struct Written {
-    pub answer: Answer,
-    pub len: usize,
-}
-
 // The first 18 octets of a MOVE; the first 16 are those of an ADD-notify.
-fn front(
-    command: u8,
-    status: u8,
-    identifier: u16,
-    size: u16,
-    station: [u8; 6],
-    sequence: u16,
-    context: u16,
-) -> [u8; 18]
-    ensures { result ≡ front_of command status identifier size station sequence context }
+#[tactic(auto, using(crate::proofs::Writing::of_front))]
+fn front(p: Packet, size: u16, context: u16) -> [u8; 18]
+    ensures { result ≡ front_of (octet_of p.command) p.status p.identifier size p.station p.sequence context }
 {
+    let identifier = p.identifier.to_be_bytes();
+    let size = size.to_be_bytes();
+    let station = p.station;
+    let sequence = p.sequence.to_be_bytes();
+    let context = context.to_be_bytes();
     [
         0,
-        command,
-        (identifier / 256) as u8,
-        (identifier % 256) as u8,
-        (size / 256) as u8,
-        (size % 256) as u8,
+        u8::from(p.command),
+        identifier[0],
+        identifier[1],
+        size[0],
+        size[1],
         6,
-        status,
+        p.status,
         station[0],
         station[1],
         station[2],
         station[3],
         station[4],
         station[5],
-        (sequence / 256) as u8,
-        (sequence % 256) as u8,
-        (context / 256) as u8,
-        (context % 256) as u8,
+        sequence[0],
+        sequence[1],
+        context[0],
+        context[1],
     ]
 }
 
-// A refusal: nothing is written.
-fn refused(answer: Answer) -> Written
-    ensures { result ≡ record { answer = answer; len = 0 } }
+// An ADD-notify: it has neither status nor context.
+#[tactic(auto, using(lists::proofs::Tables::tests), unfolding(crate::specs::Write::write_to, crate::specs::Write::writer_tests))]
+fn write_add(p: Packet, buffer: &mut [u8]) -> Result<usize, Refusal>
+    ensures { writing_of result buffer.new ≡ write_to (record { command = 0; identifier = p.identifier; status = 0; station = p.station; sequence = p.sequence; context = [] }) buffer.old }
 {
-    Written { answer, len: 0 }
-}
-
-fn write_add(identifier: u16, station: [u8; 6], sequence: u16, buffer: &mut [u8]) -> Written
-    ensures { writing_of result buffer.new ≡ write_to (record { command = 0; identifier = identifier; status = 0; station = station; sequence = sequence; context = [] }) buffer.old }
-{
-    if 4095 < sequence {
-        return refused(Answer::SequenceOutOfRange);
+    if 4095 < p.sequence {
+        return Err(Refusal::SequenceOutOfRange);
     }
     if buffer.len() < 16 {
-        return refused(Answer::BufferTooShort);
+        return Err(Refusal::BufferTooShort);
     }
-    let octets = front(0, 0, identifier, 16, station, sequence, 0);
-    octets::copy(&octets[..16], buffer);
-    Written {
-        answer: Answer::Accepted,
-        len: 16,
-    }
+    let add = Packet {
+        command: Command::AddNotify,
+        status: 0,
+        ..p
+    };
+    octets::copy(&front(add, 16, 0)[..16], buffer);
+    Ok(16)
 }
 
-fn write_move(
-    command: u8,
-    status: u8,
-    identifier: u16,
-    station: [u8; 6],
-    sequence: u16,
-    context: &[u8],
-    buffer: &mut [u8],
-) -> Written
-    requires { command ≡ 0 → ⊥ }
-    ensures { writing_of result buffer.new ≡ write_to (record { command = command; identifier = identifier; status = status; station = station; sequence = sequence; context = context.now }) buffer.old }
+// A MOVE, with the status and the context given.
+#[tactic(auto, using(lists::proofs::Tables::tests), unfolding(crate::specs::Write::write_to, crate::specs::Write::writer_tests))]
+fn write_move(p: Packet, context: &[u8], buffer: &mut [u8]) -> Result<usize, Refusal>
+    requires { octet_of p.command ≡ 0 → ⊥ }
+    ensures { writing_of result buffer.new ≡ write_to (record { command = octet_of p.command; identifier = p.identifier; status = p.status; station = p.station; sequence = p.sequence; context = context.now }) buffer.old }
 {
-    if 4095 < sequence {
-        return refused(Answer::SequenceOutOfRange);
+    if 4095 < p.sequence {
+        return Err(Refusal::SequenceOutOfRange);
     }
-    if 1 < status {
-        return refused(Answer::UnknownStatus);
+    if 1 < p.status {
+        return Err(Refusal::UnknownStatus);
     }
     let n = context.len();
     if 64 < n {
-        return refused(Answer::WrongContext);
+        return Err(Refusal::WrongContext);
     }
     if buffer.len() < 18 + n {
-        return refused(Answer::BufferTooShort);
+        return Err(Refusal::BufferTooShort);
     }
-    let octets = front(
-        command,
-        status,
-        identifier,
-        (18 + n) as u16,
-        station,
-        sequence,
-        n as u16,
-    );
-    octets::copy(&octets, buffer);
+    octets::copy(&front(p, (18 + n) as u16, n as u16), buffer);
     octets::copy(context, &mut buffer[18..]);
-    Written {
-        answer: Answer::Accepted,
-        len: 18 + n,
-    }
+    Ok(18 + n)
 }
 
-// Writes a packet at the front of the buffer. A MOVE has the context block given; an ADD-notify has none.
-pub fn write(p: Packet, context: &[u8], buffer: &mut [u8]) -> Written
+// Writes a packet at the front of the buffer, and answers how many octets that are. A MOVE has the context block given; an ADD-notify has none.
+pub fn write(p: Packet, context: &[u8], buffer: &mut [u8]) -> Result<usize, Refusal>
     ensures { writing_of result buffer.new ≡ write_to (fields_of p context.now) buffer.old }
 {
-    let command = p.command;
-    let station = p.station;
-    match command {
-        Command::AddNotify => write_add(p.identifier, station, p.sequence, buffer),
-        Command::MoveNotify => write_move(1, 0, p.identifier, station, p.sequence, context, buffer),
-        Command::MoveResponse => write_move(
-            2,
-            p.status,
-            p.identifier,
-            station,
-            p.sequence,
-            context,
-            buffer,
-        ),
+    match p.command {
+        Command::AddNotify => write_add(p, buffer),
+        Command::MoveNotify => write_move(Packet { status: 0, ..p }, context, buffer),
+        Command::MoveResponse => write_move(p, context, buffer),
     }
 }

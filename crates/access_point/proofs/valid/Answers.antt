@@ -5,12 +5,12 @@ use Rattle.record.proofs.Sizes.{association_slots, move_slots}
 use Rattle.record.proofs.ValidLaws.{in_two}
 use Rattle.access_point.proofs.valid.Goals as goal
 
-pub returns-then-not-valid : goal.returns-then-not-valid
-returns-then-not-valid c =
+pub returns-then-valid : goal.returns-then-valid
+returns-then-valid c =
     let e = in_two c.args.ap_count c.args.a (association_slots c.args.a _ c.well_formed.0) (move_slots c.args.a _ c.well_formed.0) in
-    sym (e ∙ rw (← c.valid.ensures, c.if-not-valid.true))
+    sym (e ∙ rw (← c.valid.ensures, c.if-valid.true) (sym c.valid-then-valid.ensures))
 
-pub returns : goal.returns
-returns c =
+pub returns-else-valid : goal.returns-else-valid
+returns-else-valid c =
     let e = in_two c.args.ap_count c.args.a (association_slots c.args.a _ c.well_formed.0) (move_slots c.args.a _ c.well_formed.0) in
-    sym (e ∙ rw (← c.valid.ensures, c.if-not-valid.false) (sym c.valid-2.ensures))
+    sym (e ∙ rw (← c.valid.ensures, c.if-valid.false))

@@ -16,16 +16,16 @@ returns-then-is_group c =
     c.unchanged-then-is_group.ensures
     ∙ leave_group c.args.at c.args.ap_count c.args.station c.args.a c.if-ap_count-at.false (sym c.is_group.ensures ∙ c.if-is_group.true)
 
-pub put_back-b-requires : goal.put_back-b-requires
-put_back-b-requires c =
-    let seen : Seen c.args.station c.args.a c.of-x.result =
-    record { usable = c.requires; rows = omega arith; moves = omega arith; same = c.of-x.ensures } in
-    (c.requires.associations, c.leave-y.ensures.allowed c.args.station c.args.a seen)
+pub put_back-requires : goal.put_back-requires
+put_back-requires c =
+    let seen : Seen c.args.station c.args.a c.of.result =
+    record { usable = c.requires; rows = omega arith; moves = omega arith; same = c.of.ensures } in
+    (c.requires.associations, c.leave-left.ensures.allowed c.args.station c.args.a seen)
 
 pub returns : goal.returns
 returns c =
-    let seen : Seen c.args.station c.args.a c.of-x.result =
-    record { usable = c.requires; rows = omega arith; moves = omega arith; same = c.of-x.ensures } in
-    let e : done_of c.unchanged-2.result ≡ unchanged_by 0 c.put_back-b.result = c.unchanged-2.ensures in
+    let seen : Seen c.args.station c.args.a c.of.result =
+    record { usable = c.requires; rows = omega arith; moves = omega arith; same = c.of.ensures } in
+    let e : done_of c.unchanged-2.result ≡ unchanged_by 0 c.put_back.result = c.unchanged-2.ensures in
     e
-    ∙ leave_done c.args.at c.args.ap_count c.args.station c.args.a c.if-ap_count-at.false (sym c.is_group.ensures ∙ c.if-is_group.false) c.put_back-b.result (c.put_back-b.ensures ∙ c.leave-y.ensures.result_value c.args.station c.args.a seen)
+    ∙ leave_done c.args.at c.args.ap_count c.args.station c.args.a c.if-ap_count-at.false (sym c.is_group.ensures ∙ c.if-is_group.false) c.put_back.result (c.put_back.ensures ∙ c.leave-left.ensures.result_value c.args.station c.args.a seen)

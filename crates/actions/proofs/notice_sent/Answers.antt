@@ -24,4 +24,4 @@ returns-in-Announce c =
 
 pub returns-in-Notify : goal.returns-in-Notify
 returns-in-Notify c =
-    c.one.ensures ∙ ap (λ p. outbox_of (p ∷ [])) c.move_notify-p.ensures ∙ sends c.args.own c.args.ap_count c.args.sequence c.args.station c.args.notice _ c.in-Notify.is
+    c.one.ensures ∙ ap (λ p. outbox_of (p ∷ [])) c.move_notify.ensures ∙ sends c.args.own c.args.ap_count c.args.sequence c.args.station c.args.notice _ c.in-Notify.is

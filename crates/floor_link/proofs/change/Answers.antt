@@ -3,7 +3,6 @@
 use Rattle.std.proofs.Common.{ℕ, ◌≤◌, ◌<◌, ◌≡◌, ◌∙◌, sym, ap, Bool, true, false, List, arith}
 use lib.ListN.{get_or, set}
 use Rattle.machine.specs.Events.{step}
-use Rattle.joining.specs.Join.{old_of}
 use Rattle.network.specs.declared.InFlights.{InFlights}
 use Rattle.network.specs.declared.Network.{Network}
 use Rattle.network.specs.Lens.{get}
@@ -40,23 +39,23 @@ module _ (w : Network) (z : NetworkFits w) (v : valid_network_record w ≡ true)
 
   -- what it sends
   few : (k b : ℕ) (c : List ℕ) (x : Done) → b < w.ap_count
-      → x ≡ action_for e.kind e.at e.station e.sequence (old_of e.old) c w.ap_count w.timeout w.resend_limit w.in_flight.count (get_or w.points b past) (get_or w.in_flight.items k packets.past)
+      → x ≡ action_for e.kind e.at e.station e.sequence e.old c w.ap_count w.timeout w.resend_limit w.in_flight.count (get_or w.points b past) (get_or w.in_flight.items k packets.past)
       → x.sent.count ≤ 8
   few k b c x l q =
       let n = ap (λ (y : Done). y.sent.count) q in
-      omega (arith, n, few_sent e.kind e.at e.station e.sequence (old_of e.old) c w.ap_count w.timeout w.resend_limit w.in_flight.count (get_or w.points b past) (get_or w.in_flight.items k packets.past) (usable_at w z v b past l) eight)
+      omega (arith, n, few_sent e.kind e.at e.station e.sequence e.old c w.ap_count w.timeout w.resend_limit w.in_flight.count (get_or w.points b past) (get_or w.in_flight.items k packets.past) (usable_at w z v b past l) eight)
 
   -- what is stored is what was taken apart, put together
   stored : (k b : ℕ) (taken : Bool) (c : List ℕ) (x : Done) (f : Network) → is_who e.kind ≡ false
       → k ≡ packet_for e.kind e.at w.in_flight.count
       → b ≡ point_for e.kind e.at w.ap_count w.in_flight.count (get_or w.in_flight.items k packets.past).to
       → taken ≡ taken_for e.kind e.at w.in_flight.count
-      → x ≡ action_for e.kind e.at e.station e.sequence (old_of e.old) c w.ap_count w.timeout w.resend_limit w.in_flight.count (get_or w.points b past) (get_or w.in_flight.items k packets.past)
+      → x ≡ action_for e.kind e.at e.station e.sequence e.old c w.ap_count w.timeout w.resend_limit w.in_flight.count (get_or w.points b past) (get_or w.in_flight.items k packets.past)
       → f ≡ (stored_by w b taken k x).network
       → record { line = (stored_by w b taken k x).line; network = f } ≡ reply_of w (step (get w) 0 (event_from e c))
   stored k b taken c x f u qk qb qt qx q =
       ap (λ (g : Network). record { line = (stored_by w b taken k x).line; network = g }) q
-      ∙ performed_by w z v e.at e.station e.sequence (old_of e.old) c packets.past past e.kind b k taken x u qk qb qt qx
+      ∙ performed_by w z v e.at e.station e.sequence e.old c packets.past past e.kind b k taken x u qk qb qt qx
 
   -- nothing taken out and nothing sent
   none_sent : (k : ℕ) (taken : Bool) (o : Outbox) → taken ≡ false → o.count ≤ 0 → w.in_flight ≡ settled_by taken k o w.in_flight

@@ -1,6 +1,6 @@
 -- `joining::from_nowhere` meets its contract: the row is placed, and the next identifier is used.
 -- Assumes nothing.
-use Rattle.std.proofs.Common.{ap, ◌∙◌}
+use Rattle.std.proofs.Common.{ap, ◌∙◌, refl, ◌+◌, ◌%◌, ◌^◌}
 use Rattle.excerpt.specs.declared.Excerpt.{Excerpt}
 use Rattle.excerpt.specs.Excerpts.{put_back}
 use Rattle.joining.proofs.Laws.{opening, joined_nowhere}
@@ -10,7 +10,7 @@ pub returns : goal.returns
 returns c =
     let p = c.with_edit-y.ensures in record {
       result_value = λ a w.
-          ap (λ (y : Excerpt). put_back a (opening y y.moves c.wrapping_add_u16.result y.opened)) p
-          ∙ joined_nowhere c.args.station c.args.sequence a c.args.x w c.args.context.now _ _ c.new_association-row.ensures c.wrapping_add_u16.ensures.value;
+          ap (λ (y : Excerpt). put_back a (opening y y.moves ((c.args.x.next_identifier + 1) % 2 ^ 16) y.opened)) p
+          ∙ joined_nowhere c.args.station c.args.sequence a c.args.x w c.args.context.now _ _ c.new_association-row.ensures refl;
       edit_value = (ap (λ (y : Excerpt). y.edit) p, ap (λ (y : Excerpt). y.at) p);
     }

@@ -1,37 +1,19 @@
 -- `receiving::notify_reply` meets its contract: each answer is the machine's.
 -- Assumes nothing.
-use Rattle.std.proofs.Common.{sym, ◌∙◌}
-use Rattle.receiving.proofs.Rules.{empty_small}
+use Rattle.std.proofs.Common.{sym}
 use Rattle.receiving.proofs.Laws.{reply_none, reply_stays, reply_gone, reply_small}
 use Rattle.receiving.proofs.notify_reply.Goals as goal
 
-pub returns-then-x : goal.returns-then-x
-returns-then-x c =
-    let x = c.args.x in
-    let n = c.args.sequence in
-    let e = c.empty_reply.ensures in
-    record {
-      value = (λ s a q. reply_none s a x q n _ c.if-x.true e);
-      len_bound = (λ s a q. empty_small _ 0 e);
-    }
+pub returns-in-None-clause-value : goal.returns-in-None-clause-value
+returns-in-None-clause-value c = λ s a q. reply_none s a c.args.x q c.args.sequence c.in-None.ensures
 
-pub returns-then-not-newer : goal.returns-then-not-newer
-returns-then-not-newer c =
-    let x = c.args.x in
-    let n = c.args.sequence in
-    let e = c.empty_reply-then-not-newer.ensures in
-    let f = sym c.newer.ensures ∙ c.if-not-newer.true in
-    record {
-      value = (λ s a q. reply_stays s a x q n _ c.if-x.false f e);
-      len_bound = (λ s a q. empty_small _ 1 e);
-    }
+pub returns-in-Some-clause-value : goal.returns-in-Some-clause-value
+returns-in-Some-clause-value c =
+    λ s a q. reply_gone s a c.args.x q c.args.sequence c.in-Some.row c.in-Some.ensures (sym c.if-newer.ensures)
 
-pub returns : goal.returns
-returns c =
-    let x = c.args.x in
-    let n = c.args.sequence in
-    let f = sym c.newer.ensures ∙ c.if-not-newer.false in
-    record {
-      value = (λ s a q. reply_gone s a x q n c.if-x.false f);
-      len_bound = (λ s a q. reply_small s a x q c.if-x.false);
-    }
+pub returns-in-Some-clause-len_bound : goal.returns-in-Some-clause-len_bound
+returns-in-Some-clause-len_bound c = λ s a q. reply_small s a c.args.x q c.in-Some.row c.in-Some.ensures
+
+pub returns-in-Some-2-clause-value : goal.returns-in-Some-2-clause-value
+returns-in-Some-2-clause-value c =
+    λ s a q. reply_stays s a c.args.x q c.args.sequence c.in-Some.row c.in-Some.ensures (sym c.if-newer.ensures)

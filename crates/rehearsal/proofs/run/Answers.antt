@@ -1,5 +1,4 @@
-use Rattle.std.proofs.Common.{arith, rules, take, length-take}
-use borrow.Author.Tests.{not-false}
+use Rattle.std.proofs.Common.{arith, rules, refl, Some, take, length-take}
 use Rattle.floor_link.specs.Answered.{set_up_of}
 use Rattle.script_reader.specs.Heard.{opening_from}
 use Rattle.script_runner.proofs.Whole.{network_valid, next_there}
@@ -7,16 +6,16 @@ use Rattle.rehearsal.proofs.run.Goals as goal
 
 pub go_on-requires-clause-start_value : goal.go_on-requires-clause-start_value
 go_on-requires-clause-start_value g c =
-    let s = take c.first_lines-g.result.len c.first_lines-g.new.input in
-    let o = opening_from c.read_opening-o.result in
-    network_valid s o c.read_opening-o.ensures (not-false _ c.if-not-o.false) (set_up_of c.set_up-s.result) c.set_up-s.ensures
+    let s = take c.first_lines-got.result.len c.first_lines-got.new.input in
+    let o = opening_from (Some c.in-Some.o) in
+    network_valid s o c.in-Some.ensures refl (set_up_of c.set_up-s.result) c.set_up-s.ensures
 
 pub go_on-requires-clause-input_in_bounds : goal.go_on-requires-clause-input_in_bounds
 go_on-requires-clause-input_in_bounds g c =
-    let s = take c.first_lines-g.result.len c.first_lines-g.new.input in
-    let o = opening_from c.read_opening-o.result in
-    let l = next_there s o c.read_opening-o.ensures (not-false _ c.if-not-o.false) (set_up_of c.set_up-s.result) c.set_up-s.ensures in (
+    let s = take c.first_lines-got.result.len c.first_lines-got.new.input in
+    let o = opening_from (Some c.in-Some.o) in
+    let l = next_there s o c.in-Some.ensures refl (set_up_of c.set_up-s.result) c.set_up-s.ensures in (
       search rules,
-      omega (arith, l, length-take c.first_lines-g.result.len c.first_lines-g.new.input),
+      omega (arith, l, length-take c.first_lines-got.result.len c.first_lines-got.new.input),
       search rules,
     )

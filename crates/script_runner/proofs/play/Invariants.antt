@@ -36,7 +36,7 @@ abbrev pub decreases-loop-j : goal.decreases-loop-j
 decreases-loop-j l = l.sends - l.j
 
 abbrev pub invariant-loop-at : goal.invariant-loop-at
-invariant-loop-at l = Playing l.network (of l.n l.timeout l.resend_limit l.points l.flight) l.s l.initial.out l.out l.writing l.len l.at
+invariant-loop-at l = Playing l.network (of l.n l.setup.timeout l.setup.resend_limit l.points l.flight) l.s l.initial.out l.out l.writing l.len l.at
 
 abbrev pub decreases-loop-at : goal.decreases-loop-at
 decreases-loop-at l = length l.s - l.at

@@ -28,17 +28,17 @@ rest_length b = ap length (rest_from b 38) ∙ length-drop 38 b
 pub returns-then-out-lt38 : goal.returns-then-out-lt38
 returns-then-out-lt38 c =
     let l : length c.args.out.now < length (result_names ++ (printed c.args.network (lines c.args.s.now))) = omega (arith, whole (printed c.args.network (lines c.args.s.now)), c.if-out-lt38.true) in
-    refused_is _ _ (result_names ++ (printed c.args.network (lines c.args.s.now))) c.args.out.now _ c.too_short.ensures.0 c.too_short.ensures.1 refl l
+    refused_is (result_names ++ (printed c.args.network (lines c.args.s.now))) c.args.out.now _ refl l
 
 pub returns-then-not-fits : goal.returns-then-not-fits
 returns-then-not-fits c =
     let l : length c.args.out.now < length (result_names ++ (printed c.args.network (lines c.args.s.now))) =
     omega (arith, whole (printed c.args.network (lines c.args.s.now)), leb-false _ _ (sym c.fits.ensures.value ∙ c.if-not-fits.true), rest_length c.args.out.now) in
-    refused_is _ _ (result_names ++ (printed c.args.network (lines c.args.s.now))) c.args.out.now _ c.too_short-then-not-fits.ensures.0 c.too_short-then-not-fits.ensures.1
+    refused_is (result_names ++ (printed c.args.network (lines c.args.s.now))) c.args.out.now _
     (back 38 c.args.out.now c.fits.new.out c.fits.ensures.out_unchanged) l
 
 pub play-p-requires : goal.play-p-requires
-unfolding result_names octets_of
+unfolding result_names
 play-p-requires c =
     let room : 38 + length (printed c.args.network (lines c.args.s.now)) ≤ length c.args.out.now =
     omega (arith, leb-true _ _ (sym c.fits.ensures.value ∙ c.if-not-fits.false), rest_length c.args.out.now, c.if-out-lt38.false) in
@@ -48,7 +48,7 @@ play-p-requires c =
     record { network_value = c.requires; s_in_bounds = λ q. left }
 
 pub overflow_add-result : goal.overflow_add-result
-unfolding result_names octets_of
+unfolding result_names
 overflow_add-result c =
     let room : 38 + length (printed c.args.network (lines c.args.s.now)) ≤ length c.args.out.now =
     omega (arith, leb-true _ _ (sym c.fits.ensures.value ∙ c.if-not-fits.false), rest_length c.args.out.now, c.if-out-lt38.false) in
@@ -60,7 +60,7 @@ overflow_add-result c =
     omega (arith, size, room)
 
 pub returns : goal.returns
-unfolding result_names octets_of
+unfolding result_names
 returns c =
     let room : 38 + length (printed c.args.network (lines c.args.s.now)) ≤ length c.args.out.now =
     omega (arith, leb-true _ _ (sym c.fits.ensures.value ∙ c.if-not-fits.false), rest_length c.args.out.now, c.if-out-lt38.false) in

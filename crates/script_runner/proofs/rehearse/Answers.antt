@@ -1,10 +1,9 @@
 -- `script_runner::rehearse` meets its contract.
 -- Assumes nothing.
 use Prim.Native.Nat.{ℕ, ◌≤◌}
-use mathlib.Core.Path.{◌≡◌, sym, ap, ◌∙◌}
+use mathlib.Core.Path.{◌≡◌, refl, sym, ap, ◌∙◌}
 use mathlib.Core.List.{List, ◌++◌}
-use mathlib.Core.Option.{some}
-use borrow.Author.Tests.{not-true, not-false}
+use Rattle.std.specs.Prelude.{Some}
 use lib.ListN.{length, drop}
 use Rattle.lists.proofs.Fronts.{rest_from}
 use Rattle.network.specs.declared.Network.{Network}
@@ -15,30 +14,31 @@ use Rattle.script.specs.SetUpLines.{set_up_in}
 use Rattle.script.specs.Result.{result_names}
 use Rattle.script.specs.Script.{printed, output_of}
 use Rattle.script.proofs.Runs.{output_is, output_bad, script_claim}
-use Rattle.script_reader.specs.Heard.{three_lines, Opening, opening_from}
+use Rattle.script_reader.specs.Heard.{three_lines, Opening, opening_from, nothing_opened}
 use Rattle.script_runner.specs.Played.{written_into}
 use Rattle.script_runner.proofs.Whole.{values_of, opened_bad, opened, new_network_lem, network_valid, next_there, lines_after}
 use Rattle.script_runner.proofs.rehearse.Goals as goal
 
-pub returns-then-not-o : goal.returns-then-not-o
-returns-then-not-o c =
-    let g = opened_bad c.args.script.now (opening_from c.read_opening-o.result) c.read_opening-o.ensures (not-true _ c.if-not-o.true) in
+pub returns-in_default : goal.returns-in_default
+unfolding nothing_opened
+returns-in_default c =
+    let g = opened_bad c.args.script.now nothing_opened c.in_default.ensures refl in
     record {
       out_after = c.refuse.ensures ∙ ap (λ (t : List ℕ). written_into t c.args.out.now) (sym (output_bad c.args.script.now g));
       script_claim = script_claim c.args.script.now;
     }
 
 pub slice_bounds-print_all-count : goal.slice_bounds-print_all-count
-slice_bounds-print_all-count c = next_there c.args.script.now (opening_from c.read_opening-o.result) c.read_opening-o.ensures (not-false _ c.if-not-o.false) (set_up_of c.set_up-x.result) c.set_up-x.ensures
+slice_bounds-print_all-count c = next_there c.args.script.now (opening_from (Some c.in-Some.o)) c.in-Some.ensures refl (set_up_of c.set_up-x.result) c.set_up-x.ensures
 
 pub slice_bounds-print_all-start : goal.slice_bounds-print_all-start
-slice_bounds-print_all-start c = let h : c.read_opening-o.result.next ≤ length c.args.script.now = next_there c.args.script.now (opening_from c.read_opening-o.result) c.read_opening-o.ensures (not-false _ c.if-not-o.false) (set_up_of c.set_up-x.result) c.set_up-x.ensures in h
+slice_bounds-print_all-start c = let h : c.in-Some.o.next ≤ length c.args.script.now = next_there c.args.script.now (opening_from (Some c.in-Some.o)) c.in-Some.ensures refl (set_up_of c.set_up-x.result) c.set_up-x.ensures in h
 
 pub print_all-requires : goal.print_all-requires
-print_all-requires c = network_valid c.args.script.now (opening_from c.read_opening-o.result) c.read_opening-o.ensures (not-false _ c.if-not-o.false) (set_up_of c.set_up-x.result) c.set_up-x.ensures
+print_all-requires c = network_valid c.args.script.now (opening_from (Some c.in-Some.o)) c.in-Some.ensures refl (set_up_of c.set_up-x.result) c.set_up-x.ensures
 
 -- the text of the lines after the set-up is the script's output
-output : (s l : List ℕ) (x : Opening) (w : Network) → (set_up_in (lines s) ≡ some (values_of x)) × (x.next ≡ three_lines s)
+output : (s l : List ℕ) (x : Opening) (w : Network) → (set_up_in (lines s) ≡ Some (values_of x)) × (x.next ≡ three_lines s)
     → w ≡ new_network x.aps x.timeout x.resends → l ≡ drop x.next s → result_names ++ printed w (lines l) ≡ output_of s
 output s l x w read new e =
     ap (λ (y : List ℕ). result_names ++ printed w (lines y)) (e ∙ ap (λ (n : ℕ). drop n s) read.1)
@@ -48,10 +48,12 @@ output s l x w read new e =
 
 pub returns : goal.returns
 returns c =
+    let x = opening_from (Some c.in-Some.o) in
+    let s = c.args.script.now in
     record {
       out_after =
           c.print_all.ensures
           ∙ ap (λ (t : List ℕ). written_into t c.args.out.now)
-          (output c.args.script.now _ (opening_from c.read_opening-o.result) c.set_up-x.result.network (opened c.args.script.now (opening_from c.read_opening-o.result) c.read_opening-o.ensures (not-false _ c.if-not-o.false)) (new_network_lem c.args.script.now (opening_from c.read_opening-o.result) c.read_opening-o.ensures (not-false _ c.if-not-o.false) (set_up_of c.set_up-x.result) c.set_up-x.ensures) (rest_from c.args.script.now _));
-      script_claim = script_claim c.args.script.now;
+          (output s _ x c.set_up-x.result.network (opened s x c.in-Some.ensures refl) (new_network_lem s x c.in-Some.ensures refl (set_up_of c.set_up-x.result) c.set_up-x.ensures) (rest_from s _));
+      script_claim = script_claim s;
     }

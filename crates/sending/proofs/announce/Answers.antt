@@ -1,51 +1,34 @@
--- `sending::announce` meets its contract. The loop's invariant: the copies to the first i APs are in the outbox.
+-- `sending::announce` meets its contract: the AP itself is left out, and every other gets a copy.
 -- Assumes nothing.
-use Prim.Native.Nat.{ℕ, ◌<◌}
-use mathlib.Core.Path.{◌≡◌, ap, ◌∙◌}
-use mathlib.Core.List.{map}
-use native.Mathlib.Omega.{arith}
-use Rattle.machine.specs.Packets.{carried}
+use Rattle.std.proofs.Common.{◌≡◌, ℕ, ap, ◌∙◌, arith}
+use Rattle.machine.specs.Packets.{fields_as, written, carried}
 use Rattle.machine.specs.AccessPoint.{add_notifies}
 use Rattle.in_flight.specs.Post.{outbox_of}
 use Rattle.sending.specs.Sends.{add_packet}
-use Rattle.sending.proofs.Notices.{Announced, announced_none, announced_few, announced_own, announced_other}
+use Rattle.sending.proofs.Notices.{announced, announced_few, announced_own, announced_other}
 use Rattle.sending.proofs.announce.Goals as goal
-use Rattle.sending.proofs.announce.Goals.{then-i-own, else-i-own}
+use Rattle.sending.proofs.announce.Goals.{then-to-own, else-to-own}
 
-pub loop-i-init : goal.loop-i-init
-loop-i-init c = (omega arith, λ q e. announced_none c.args.own q c.add_notify-p.result c.nothing-out.result e c.nothing-out.ensures)
+pub loop-to-init : goal.loop-to-init
+unfolding add_notifies
+loop-to-init c = c.nothing-out.ensures
 
-pub offset_bounds-out-k : goal.offset_bounds-out-k
-offset_bounds-out-k c =
-    let sofar : Announced c.args.own (add_packet c.args.identifier c.args.station c.args.sequence) c.loop-i.p c.loop-i.out c.loop-i.i = c.loop-i.invariant.1 (add_packet c.args.identifier c.args.station c.args.sequence) c.add_notify-p.ensures in
-    let free : c.loop-i.out.count < 8 = omega (arith, announced_few c.args.own (add_packet c.args.identifier c.args.station c.args.sequence) c.loop-i.p c.loop-i.out c.loop-i.i sofar, c.requires.1) in
-    omega (arith, free)
+pub push-requires : goal.push-requires
+push-requires c =
+    omega (arith, announced_few c.args.own (add_packet c.args.identifier c.args.station c.args.sequence) c.loop-to.out c.loop-to.to c.loop-to.invariant, c.requires.1)
 
-pub bounds-out-k : goal.bounds-out-k
-bounds-out-k c =
-    let sofar : Announced c.args.own (add_packet c.args.identifier c.args.station c.args.sequence) c.loop-i.p c.loop-i.out c.loop-i.i = c.loop-i.invariant.1 (add_packet c.args.identifier c.args.station c.args.sequence) c.add_notify-p.ensures in
-    let free : c.loop-i.out.count < 8 = omega (arith, announced_few c.args.own (add_packet c.args.identifier c.args.station c.args.sequence) c.loop-i.p c.loop-i.out c.loop-i.i sofar, c.requires.1) in
-    free
-
-pub overflow_add-out : goal.overflow_add-out
-overflow_add-out c =
-    let sofar : Announced c.args.own (add_packet c.args.identifier c.args.station c.args.sequence) c.loop-i.p c.loop-i.out c.loop-i.i = c.loop-i.invariant.1 (add_packet c.args.identifier c.args.station c.args.sequence) c.add_notify-p.ensures in
-    let free : c.loop-i.out.count < 8 = omega (arith, announced_few c.args.own (add_packet c.args.identifier c.args.station c.args.sequence) c.loop-i.p c.loop-i.out c.loop-i.i sofar, c.requires.1) in
-    omega (arith, free)
-
-pub loop-i-preserved : goal.loop-i-preserved
-loop-i-preserved c =
-    let b = c.args.own in
-    let i = c.loop-i.i in (
-      omega arith,
-      λ q e. elim c.if-i-own.branch [
-        | then-i-own w ↦ announced_other b q c.loop-i.p c.loop-i.out i (c.loop-i.invariant.1 q e) c.if-i-own.p c.if-i-own.out w.if-i-own.true (omega (arith, c.requires.1)) w.p-is w.out-is
-        | else-i-own w ↦ announced_own b q c.loop-i.p c.loop-i.out i (c.loop-i.invariant.1 q e) c.if-i-own.p c.if-i-own.out w.if-i-own.false w.p-is w.out-is
-      ],
-    )
+pub loop-to-preserved : goal.loop-to-preserved
+unfolding carried written fields_as
+loop-to-preserved c =
+    let q = add_packet c.args.identifier c.args.station c.args.sequence in
+    let i = c.loop-to.to in
+    let h = c.loop-to.invariant in
+    elim c.if-to-own.branch [
+      | then-to-own w ↦ w.out-is ∙ w.push.ensures ∙ announced_other c.args.own q c.loop-to.out i h w.if-to-own.true (omega (arith, c.requires.1)) c.send-p.result c.send-p.ensures
+      | else-to-own w ↦ w.out-is ∙ announced_own c.args.own q c.loop-to.out i h w.if-to-own.false
+    ]
 
 pub returns : goal.returns
 returns c =
-    let sofar : Announced c.args.own (add_packet c.args.identifier c.args.station c.args.sequence) c.loop-i.p c.loop-i.out c.loop-i.i = c.loop-i.invariant.1 (add_packet c.args.identifier c.args.station c.args.sequence) c.add_notify-p.ensures in
-    let e : c.loop-i.i ≡ c.args.ap_count = omega arith in
-    sofar.1 ∙ ap (λ (k : ℕ). outbox_of (map (carried c.args.own) (add_notifies c.args.own (add_packet c.args.identifier c.args.station c.args.sequence) 0 k))) e
+    let e : c.loop-to.to ≡ c.args.ap_count = omega arith in
+    c.loop-to.invariant ∙ ap (λ (k : ℕ). outbox_of (announced c.args.own (add_packet c.args.identifier c.args.station c.args.sequence) k)) e
