@@ -27,8 +27,10 @@ use Rattle.in_flight.specs.Post.{get_outbox, outbox_of}
 use Rattle.in_flight.proofs.Posted.{outbox_got}
 use Rattle.actions.specs.declared.Action.{Action}
 use Rattle.actions.specs.Done.{Done, done_of, done_by, decided}
+use Rattle.actions.specs.declared.Joining.{Joining}
 use Rattle.actions.specs.contracts.Action as A
-use Rattle.alone.specs.Front.{Sized, Packed}
+use Rattle.actions.specs.contracts.Joining as J
+use Rattle.alone.specs.Front.{Sized, Packed, Sends}
 
 -- 82 octets
 abbrev Slots : InFlight → Type 0
@@ -76,3 +78,18 @@ pub action_packed : (x : Action) (vs : List Val) → Is (row A.the_type) x vs �
 action_packed x vs g ts b a y e =
     let p = g.1.1.1.0.1.1.0 in
     packed_by x.sent (p.1.0.1) (each_all (F.the_row).own_val x.sent.items p.0 (λ p u h. h.1.1.1.1.1.0.1.0.1) p.1.1) ts b a y (ap (λ (d : Done). d.sent) e)
+
+-- an accepted join's outbox has what the AP sends, and its type gives the slots
+
+pub join_sends : (o : Outbox) (ts : List Test) (b : ℕ) (a : AccessPoint) (y : machine.Action) → o ≡ (decided ts b a y).sent → Sends o
+unfolding decided done_by
+join_sends o ts b a y e =
+    by_cond (λ (d : Done). o ≡ d.sent → Sends o) (accepts (first_of ts))
+    (λ q h. record { from = b; sends = y.sends; same = h })
+    (λ q h. record { from = b; sends = []; same = h })
+    e
+
+pub join_packed : (x : Joining) (vs : List Val) → Is (row J.the_type) x vs → Sends x.sent → Packed x.sent
+join_packed x vs g h =
+    let p = g.1.1.1.0.1.1.0 in
+    packed x.sent (p.1.0.1) (each_all (F.the_row).own_val x.sent.items p.0 (λ p u h. h.1.1.1.1.1.0.1.0.1) p.1.1) h.from h.sends h.same

@@ -4,9 +4,9 @@ use Rattle.lists.specs.Table.{accepts}
 use Rattle.lists.specs.Places.{All}
 use Rattle.elements.specs.declared.InFlight.{InFlight}
 use Rattle.machine.specs.Associations.{padded}
-use Rattle.machine.specs.Packets.{octets_in}
+use Rattle.machine.specs.Packets.{Outgoing, octets_in, carried}
 use Rattle.in_flight.specs.declared.Outbox.{Outbox}
-use Rattle.in_flight.specs.Post.{get_outbox}
+use Rattle.in_flight.specs.Post.{get_outbox, outbox_of}
 use Rattle.alone.specs.declared.Reply.{Reply}
 use Rattle.alone.specs.Told.{reply_with, front_of}
 
@@ -37,6 +37,12 @@ pub record Packed (o : Outbox) : Type 0 where
   pub count : o.count ≤ 8
   pub slots : length o.items ≡ 8
   pub sizes : All Sized (get_outbox o)
+
+-- an outbox with what an AP sends
+pub record Sends (o : Outbox) : Type 0 where
+  pub from : ℕ
+  pub sends : List Outgoing
+  pub same : o ≡ outbox_of (map (carried from) sends)
 
 -- the reply, and what the buffer then holds
 pub record Posted : Type 0 where

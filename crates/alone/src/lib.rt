@@ -6,8 +6,9 @@ ghost use Rattle.std.specs.Prelude.{◌≡◌, ◌≤◌, length};
 ghost use Rattle.answers.specs.Numbers.{number_of};
 ghost use Rattle.network.specs.Lens.{new_point};
 ghost use Rattle.alone.specs.Told.{told_of, reply_with, front_of, set_up_alone, old_named, join_alone, leave_alone, tick_alone, outside_alone, who_alone};
-ghost use Rattle.alone.specs.Front.{outbox_octets, outbox_receivers, Packed, posted_of, posted_into};
+ghost use Rattle.alone.specs.Front.{outbox_octets, outbox_receivers, Packed, Sends, posted_of, posted_into};
 
+use actions::Joining;
 use answers::{Answer, Refusal};
 use in_flight::Outbox;
 use joining::Request;
@@ -189,6 +190,14 @@ pub fn old_named(old: u32) -> Option<u16>
     Some(old as u16)
 }
 
+// What an accepted join sends, told: its packets are written, or it is 10.
+fn post_joined(buffer: &mut [u8], j: Joining) -> Reply
+    requires { Sends j.sent }
+    ensures { posted_of result buffer.new ≡ posted_into 0 j.sent 0 buffer.old }
+{
+    post(buffer, Ok(()), j.sent, 0)
+}
+
 // A station joins: 14, 13, 7, 9, 15, 16, 17, then 10 for a buffer too short for the packets.
 pub fn join(
     mut lone: LoneAccessPoint,
@@ -216,12 +225,20 @@ pub fn join(
         sequence,
         old: old_named(old),
     };
-    let t = actions::join(lone.point, lone.number as u16, setup, request, context);
-    let reply = post(buffer, t.answer, t.sent, t.given_up);
-    if reply.answer == 0 {
-        lone.point = t.point;
+    let x = excerpt::of(lone.point, *station);
+    match actions::join_excerpt(x, lone.number as u16, setup, request, context) {
+        Err(r) => Outcome {
+            lone,
+            reply: reply_with(Err(r)),
+        },
+        Ok(j) => {
+            let reply = post_joined(buffer, j);
+            if reply.answer == 0 {
+                lone.point = excerpt::put_back(lone.point, j.after);
+            }
+            Outcome { lone, reply }
+        }
     }
-    Outcome { lone, reply }
 }
 
 // A station leaves: 14, 13, then its association is removed.

@@ -3,19 +3,23 @@
 use mathlib.Core.Path.{◌≡◌, sym, ap, ◌∙◌}
 use mathlib.Core.Bool.{true}
 use mathlib.Core.List.{List}
-use Rattle.std.specs.Prelude.{Option}
+use Rattle.std.specs.Prelude.{Option, Ok, Err}
+use Rattle.record.specs.declared.AccessPoint.{AccessPoint}
+use Rattle.access_point.specs.Outside.{with_record}
 use Prim.Native.Nat.{ℕ}
 use Rattle.machine.specs.Stations.{Station}
 use Rattle.record.specs.declared.LoneAccessPoint.{LoneAccessPoint}
 use Rattle.record.specs.Valid.{valid_lone_record}
 use Rattle.access_point.proofs.Outsides.{usable}
-use Rattle.actions.specs.Done.{Done, done_of, join_of}
+use Rattle.actions.specs.Done.{Done, joining_of, join_of}
 use Rattle.alone.specs.declared.Reply.{Reply}
 use Rattle.alone.specs.Told.{told_of, old_named, join_alone}
 use Rattle.alone.specs.Front.{Posted, posted_of, posted_into}
-use Rattle.alone.proofs.Sizes.{action_packed}
-use Rattle.alone.proofs.Within.{few_points}
-use Rattle.alone.proofs.Acts.{tell, tell_done, tell_refused, not_valid, join_told}
+use Rattle.alone.proofs.Sizes.{join_sends}
+use Rattle.alone.proofs.Within.{few_points, seen}
+use native.Mathlib.Omega.{arith}
+use Rattle.answers.proofs.Numbers.{refusal_above}
+use Rattle.alone.proofs.Acts.{tell, tell_done, tell_refused, not_valid, join_told, posted_refused}
 use Rattle.alone.proofs.join.Goals as goal
 
 -- what is told of it
@@ -30,30 +34,63 @@ returns-then-not-valid_lone c =
     ap (λ (r : Reply). told_of (record { lone = c.args.lone; reply = r }) c.args.buffer.now) c.reply_with.ensures
     ∙ not_valid c.args.lone _ _ c.args.buffer.now (sym c.valid_lone.ensures ∙ c.if-not-valid_lone.true)
 
-pub join-t-requires-clause-usable : goal.join-t-requires-clause-usable
-join-t-requires-clause-usable c = usable c.args.lone (sym c.valid_lone.ensures ∙ c.if-not-valid_lone.false)
+pub of-x-requires : goal.of-x-requires
+of-x-requires c = (usable c.args.lone (sym c.valid_lone.ensures ∙ c.if-not-valid_lone.false)).associations
 
-pub join-t-requires-clause-ap_count_bound : goal.join-t-requires-clause-ap_count_bound
-join-t-requires-clause-ap_count_bound c = few_points c.args.lone (sym c.valid_lone.ensures ∙ c.if-not-valid_lone.false)
+pub join_excerpt-requires : goal.join_excerpt-requires
+join_excerpt-requires c = few_points c.args.lone (sym c.valid_lone.ensures ∙ c.if-not-valid_lone.false)
 
-pub post-reply-requires : goal.post-reply-requires
+pub post_joined-reply-requires : goal.post_joined-reply-requires
 unfolding join_of
-post-reply-requires c = action_packed c.join-t.result _ c.join-t.type_inv _ _ _ _ c.join-t.ensures
+post_joined-reply-requires c =
+    let l = c.args.lone in
+    let v : valid_lone_record l ≡ true = sym c.valid_lone.ensures ∙ c.if-not-valid_lone.false in
+    join_sends _ _ _ _ _ (ap (λ (d : Done). d.sent) (c.in-Ok.ensures.result_value l.point (seen l v _ c.well_formed.0.1.1.0 c.args.station.now c.of-x.result c.of-x.ensures)))
+
+pub put_back-lone-requires : goal.put_back-lone-requires
+put_back-lone-requires c =
+    let l = c.args.lone in
+    let v : valid_lone_record l ≡ true = sym c.valid_lone.ensures ∙ c.if-not-valid_lone.false in
+    ((usable l v).associations, c.in-Ok.ensures.allowed l.point (seen l v _ c.well_formed.0.1.1.0 c.args.station.now c.of-x.result c.of-x.ensures))
+
+pub returns-in-Err : goal.returns-in-Err
+returns-in-Err c =
+    let a = c.args in
+    let l = a.lone in
+    let v : valid_lone_record l ≡ true = sym c.valid_lone.ensures ∙ c.if-not-valid_lone.false in
+    let d : Done = joining_of l.point (Err c.in-Err.r) in
+    let j : d ≡ join_of l.number l.ap_count l.timeout l.resend_limit a.station.now a.sequence (old_named a.old) a.context.now l.point =
+    c.in-Err.ensures.result_value l.point (seen l v _ c.well_formed.0.1.1.0 a.station.now c.of-x.result c.of-x.ensures)
+    ∙ ap (λ (o : Option ℕ). join_of l.number l.ap_count l.timeout l.resend_limit a.station.now a.sequence o a.context.now l.point) c.old_named.ensures in
+    let q : Posted = posted_of c.reply_with-in-Err.result a.buffer.now in
+    let e = ap (λ (r : Reply). r.answer) c.reply_with-in-Err.ensures in
+    tell_refused l d q (λ z. omega (arith, z, e, refusal_above c.in-Err.r))
+    ∙ told l v a.station.now a.sequence (old_named a.old) a.context.now a.buffer.now d j q
+    (ap (λ (r : Reply). posted_of r a.buffer.now) c.reply_with-in-Err.ensures ∙ posted_refused d.answer d.sent d.given_up a.buffer.now (λ z. omega (arith, z, refusal_above c.in-Err.r)))
 
 pub returns-then-reply-eq0 : goal.returns-then-reply-eq0
 returns-then-reply-eq0 c =
     let a = c.args in
-    let d : Done = done_of c.join-t.result in
-    let p : Posted = posted_of c.post-reply.result c.post-reply.new.buffer in
-    let e = c.join-t.ensures ∙ ap (λ (o : Option ℕ). join_of a.lone.number a.lone.ap_count a.lone.timeout a.lone.resend_limit a.station.now a.sequence o a.context.now a.lone.point) c.old_named.ensures in
-    tell_done a.lone d p c.if-reply-eq0.true
-    ∙ told a.lone (sym c.valid_lone.ensures ∙ c.if-not-valid_lone.false) a.station.now a.sequence (old_named a.old) a.context.now a.buffer.now d e p c.post-reply.ensures
+    let l = a.lone in
+    let v : valid_lone_record l ≡ true = sym c.valid_lone.ensures ∙ c.if-not-valid_lone.false in
+    let d : Done = joining_of l.point (Ok c.in-Ok.j) in
+    let j : d ≡ join_of l.number l.ap_count l.timeout l.resend_limit a.station.now a.sequence (old_named a.old) a.context.now l.point =
+    c.in-Ok.ensures.result_value l.point (seen l v _ c.well_formed.0.1.1.0 a.station.now c.of-x.result c.of-x.ensures)
+    ∙ ap (λ (o : Option ℕ). join_of l.number l.ap_count l.timeout l.resend_limit a.station.now a.sequence o a.context.now l.point) c.old_named.ensures in
+    let q : Posted = posted_of c.post_joined-reply.result c.post_joined-reply.new.buffer in
+    ap (λ (p : AccessPoint). told_of (record { lone = with_record p l; reply = q.reply }) q.buffer) c.put_back-lone.ensures
+    ∙ tell_done l d q c.if-reply-eq0.true
+    ∙ told l v a.station.now a.sequence (old_named a.old) a.context.now a.buffer.now d j q c.post_joined-reply.ensures
 
 pub returns-else-reply-eq0 : goal.returns-else-reply-eq0
 returns-else-reply-eq0 c =
     let a = c.args in
-    let d : Done = done_of c.join-t.result in
-    let p : Posted = posted_of c.post-reply.result c.post-reply.new.buffer in
-    let e = c.join-t.ensures ∙ ap (λ (o : Option ℕ). join_of a.lone.number a.lone.ap_count a.lone.timeout a.lone.resend_limit a.station.now a.sequence o a.context.now a.lone.point) c.old_named.ensures in
-    tell_refused a.lone d p c.if-reply-eq0.false
-    ∙ told a.lone (sym c.valid_lone.ensures ∙ c.if-not-valid_lone.false) a.station.now a.sequence (old_named a.old) a.context.now a.buffer.now d e p c.post-reply.ensures
+    let l = a.lone in
+    let v : valid_lone_record l ≡ true = sym c.valid_lone.ensures ∙ c.if-not-valid_lone.false in
+    let d : Done = joining_of l.point (Ok c.in-Ok.j) in
+    let j : d ≡ join_of l.number l.ap_count l.timeout l.resend_limit a.station.now a.sequence (old_named a.old) a.context.now l.point =
+    c.in-Ok.ensures.result_value l.point (seen l v _ c.well_formed.0.1.1.0 a.station.now c.of-x.result c.of-x.ensures)
+    ∙ ap (λ (o : Option ℕ). join_of l.number l.ap_count l.timeout l.resend_limit a.station.now a.sequence o a.context.now l.point) c.old_named.ensures in
+    let q : Posted = posted_of c.post_joined-reply.result c.post_joined-reply.new.buffer in
+    tell_refused l d q c.if-reply-eq0.false
+    ∙ told l v a.station.now a.sequence (old_named a.old) a.context.now a.buffer.now d j q c.post_joined-reply.ensures
