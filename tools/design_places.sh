@@ -8,17 +8,17 @@
 set -eu
 commit=${1:?a commit}
 only=${2:-}
-src='crates/*/src'
+src=':(glob)crates/*/src/**'
 
 # NAME TITLE PATTERN: lines that match
 lines() {
-    found=$(git grep -nE "$3" "$commit" -- $src | sed "s/^$commit://" || true)
+    found=$(git grep -nE "$3" "$commit" -- "$src" | sed "s/^$commit://" || true)
     tell "$1" "$2" "$found"
 }
 
 # NAME TITLE PATTERN: what is matched in two or more places
 twice() {
-    found=$(git grep -hoE "$3" "$commit" -- $src | sort | uniq -c | awk '1 < $1' || true)
+    found=$(git grep -hoE "$3" "$commit" -- "$src" | sort | uniq -c | awk '1 < $1' || true)
     tell "$1" "$2" "$found"
 }
 

@@ -5,13 +5,15 @@ use lib.ListN.{length-map}
 use Rattle.machine.specs.Packets.{Outgoing}
 use Rattle.machine.specs.Moves.{Open, counts_after, notice_of, notices_of, kept, resends, lapsed, ticking}
 use Rattle.machine.specs.AccessPoint.{with_moves, tick_by}
-use Rattle.record.specs.declared.Moves.{Moves}
 use Rattle.record.specs.declared.AccessPoint.{AccessPoint}
-use Rattle.record.specs.Lens.{get_moves, put_moves, named, bare, get_point}
-use Rattle.record.proofs.LensLaws.{Fits, put_parts, associations_kept, moves_got, moves_length}
-use Rattle.moves.specs.Blank.{no_moves}
+use Rattle.record.specs.Lens.{no_moves, get_moves, put_moves, named, bare, get_point}
+use Rattle.record.proofs.LensLaws.{Fits, associations_kept, put_parts}
 use Rattle.moves.proofs.Laws.{counted_none, counted_all, resends_few}
 use Rattle.access_point.specs.Tick.{tick_done}
+use Rattle.record.specs.declared.Moves.{Moves}
+use lib.Seq.{length-take-le}
+use Rattle.slots.proofs.Over.{take_over}
+use Rattle.elements.specs.Blanks.{no_move}
 
 -- a notice does not tell a move's name
 notices_bare : (ms : List Open) → notices_of (map named (map bare ms)) ≡ notices_of ms
@@ -21,20 +23,19 @@ notices_bare (m ∷ ms) = ap (λ (l : List Outgoing). notice_of m ∷ l) (notice
 
 -- the moves that are due, as they are held
 due_count : (t : ℕ) (a : AccessPoint) (due : Moves) → due ≡ put_moves no_moves (map bare (resends t (map named (get_moves a.moves)))) → due.count ≡ length (resends t (map named (get_moves a.moves)))
-unfolding put_moves
 due_count t a due e = ap (λ (m : Moves). m.count) e ∙ length-map (resends t (map named (get_moves a.moves))) bare
 
 pub due_few : (t : ℕ) (a : AccessPoint) (due : Moves) → Fits a → a.moves.count ≤ 8
     → due ≡ put_moves no_moves (map bare (resends t (map named (get_moves a.moves)))) → due.count ≤ 8
 due_few t a due z h e =
-    omega (arith, due_count t a due e, resends_few t (map named (get_moves a.moves)), length-map (get_moves a.moves) named, moves_length a.moves z.moves)
+    omega (arith, due_count t a due e, resends_few t (map named (get_moves a.moves)), length-map (get_moves a.moves) named, length-take-le a.moves.count a.moves.items z.moves)
 
 -- what is sent again is the notices of the moves that are due
 pub due_sends : (t : ℕ) (a : AccessPoint) → notices_of (map named (get_moves (tick_done t a).due)) ≡ (tick_by t (get_point a)).sends
 unfolding tick_done tick_by get_point
 due_sends t a =
     let ms : List Open = map named (get_moves a.moves) in
-    ap (λ l. notices_of (map named l)) (moves_got no_moves (map bare (resends t ms))) ∙ notices_bare (resends t ms)
+    ap (λ l. notices_of (map named l)) (take_over no_move 0 (map bare (resends t ms)) no_moves.items) ∙ notices_bare (resends t ms)
 
 module _ (t : ℕ) (a : AccessPoint) (z : Fits a) (left due : Moves) (g : ℕ)
     (el : left ≡ put_moves a.moves (map bare (kept t (map named (get_moves a.moves)))))

@@ -26,7 +26,8 @@ pub struct Ticking {
     pub given_up: u8,
 }
 
-// What accepted outside bytes lead to: the record afterwards, and the length of the answer written.
+// What accepted outside bytes lead to: the record afterwards, and the length of the answer written. The length stays a number: a slice would
+// keep the buffer lent.
 #[derive(Clone, Copy)]
 pub struct Answered {
     pub lone: LoneAccessPoint,
@@ -34,13 +35,15 @@ pub struct Answered {
 }
 
 // Whether 14 does not apply to the record, where the AP count is ap_count.
+#[tactic(auto, using(record::proofs::ValidLaws::in_two))]
 pub fn valid(a: AccessPoint, ap_count: u8) -> bool
     ensures { result ≡ valid_record ap_count a }
 {
-    associations::valid(a.associations) && moves::valid(a.moves, ap_count)
+    associations::valid(&a.associations) && moves::valid(&a.moves, ap_count)
 }
 
-// Whether AP count, T and R are within document 01's limits: 14 does not apply to a set-up with them.
+// Whether AP count, T and R are within document 01's limits: 14 does not apply to a set-up with them. Stay three numbers, here and in each
+// set-up: C gives 16 bits for each, and Setup's are narrower.
 #[tactic(auto, using(lists::proofs::Tables::tests), unfolding(machine::specs::Valid::valid_setup, machine::specs::Network::setup_tests))]
 pub fn valid_setup(ap_count: u16, timeout: u16, resend_limit: u16) -> bool
     ensures { result ≡ valid_setup ap_count timeout resend_limit }
@@ -63,7 +66,7 @@ pub fn tick(a: AccessPoint, timeout: u16) -> Ticking
     requires { Usable a }
     ensures { result ≡ tick_done timeout a }
 {
-    let t = moves::tick(a.moves, timeout);
+    let t = moves::tick(&a.moves, timeout);
     let moves = t.kept;
     let due = t.due;
     Ticking {
@@ -125,13 +128,13 @@ fn answer_packet(
     requires { (Usable l.point) × (length context.now ≤ 64) × (r.sequence ≤ 4095) }
     ensures { outside_of l result buffer.new ≡ answer_done l from (packet_of (reading_of r) context.now) buffer.old }
 {
-    let x = excerpt::of(l.point, r.station);
+    let x = excerpt::of(&l.point, r.station);
     let h = receiving::receive(x, from, r, context);
     let len = match h.reply {
         Some(reply) => write_reply(r, reply, buffer)?,
         None => 0,
     };
-    let point = excerpt::put_back(l.point, h.after);
+    let point = excerpt::put_back(&l.point, &h.after);
     Ok(Answered {
         lone: LoneAccessPoint { point, ..l },
         len,

@@ -24,8 +24,7 @@ use Rattle.machine.specs.AccessPoint.{quietly, another, this, nowhere, origin_of
 use Rattle.machine.specs.Events.{group_address}
 use Rattle.machine.proofs.Parts.{by_receipt}
 use Rattle.record.specs.declared.AccessPoint.{AccessPoint}
-use Rattle.record.specs.Lens.{get_moves, named, bare, get_point, put_point}
-use Rattle.record.proofs.LensLaws.{moves_got}
+use Rattle.record.specs.Lens.{no_moves, get_moves, named, bare, get_point, put_point}
 use Rattle.joining.specs.declared.Notice.TheVariants.{Silent}
 use Rattle.joining.specs.Join as joining
 use Rattle.joining.specs.Join.{sends_by, notice_from, join_done}
@@ -35,10 +34,12 @@ use Rattle.receiving.specs.Receive.{Result, message_in, replies_of, handled_by}
 use Rattle.access_point.specs.declared.Ticking.{Ticking}
 use Rattle.access_point.specs.Tick.{tick_done}
 use Rattle.access_point.proofs.Ticks.{due_sends}
-use Rattle.in_flight.specs.declared.Outbox.{Outbox}
 use Rattle.in_flight.specs.Post.{outbox_of}
 use Rattle.sending.specs.Sends.{sequence_within}
 use Rattle.actions.specs.Done.{Done, unchanged_by, done_by, decided, off_floor, no_packet, tests_of_join, join_of, leave_of, tick_of, receive_of, lose_of}
+use Rattle.in_flight.specs.declared.Outbox.{Outbox}
+use Rattle.slots.proofs.Over.{take_over}
+use Rattle.elements.specs.Blanks.{no_move}
 
 -- the tests decide
 
@@ -146,7 +147,7 @@ resends_within t (m ∷ ms) e =
 -- the notices of the moves that are due can be written
 pub due_within : (t : ℕ) (a : AccessPoint) → every sequence_within (get_moves a.moves) ≡ true → every sequence_within (get_moves (tick_done t a).due) ≡ true
 unfolding tick_done
-due_within t a h = ap (every sequence_within) (moves_got _ _) ∙ resends_within t (get_moves a.moves) h
+due_within t a h = ap (every sequence_within) (take_over no_move 0 _ no_moves.items) ∙ resends_within t (get_moves a.moves) h
 
 module _ (b k t : ℕ) (a : AccessPoint) where
   pub tick_off : k ≤ b → unchanged_by 11 a ≡ tick_of b k t a

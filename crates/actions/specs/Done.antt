@@ -2,7 +2,7 @@
 use Rattle.std.specs.Prelude.{ℕ, cond, not, List, [], ◌∷◌, map, ltb, length, Option, Result, Ok, Err}
 use Rattle.lists.specs.Table.{Test, first_of, accepts}
 use Rattle.answers.specs.declared.Refusal.{Refusal}
-use Rattle.answers.specs.Numbers.{refusal_number, number_of}
+use Rattle.answers.specs.Numbers.{refusal_number}
 use Rattle.reader.specs.Read.{read_of, context_of}
 use Rattle.elements.specs.declared.InFlight.{InFlight}
 use Rattle.machine.specs.Stations.{Station}
@@ -12,11 +12,11 @@ use Rattle.machine.specs.AccessPoint.{origin_of, join_tests, join_from, leave_by
 use Rattle.machine.specs.Events.{group_address}
 use Rattle.record.specs.declared.AccessPoint.{AccessPoint}
 use Rattle.record.specs.Lens.{get_point, put_point}
-use Rattle.in_flight.specs.declared.Outbox.{Outbox}
 use Rattle.in_flight.specs.Post.{outbox_of}
 use Rattle.excerpt.specs.Excerpts.{put_back}
 use Rattle.actions.specs.declared.Action.{Action}
 use Rattle.actions.specs.declared.Joining.{Joining}
+use Rattle.in_flight.specs.declared.Outbox.{Outbox}
 
 -- the answer, the record afterwards, the packets sent and how many moves were given up
 pub record Done : Type 0 where
@@ -25,12 +25,18 @@ pub record Done : Type 0 where
   pub sent : Outbox
   pub given_up : ℕ
 
-abbrev pub done_of : Action → Done
-done_of x = record { answer = number_of x.answer; point = x.point; sent = x.sent; given_up = x.given_up }
-
 -- the record a as it came, and the answer n
 abbrev pub unchanged_by : ℕ → AccessPoint → Done
 unchanged_by n a = record { answer = n; point = a; sent = outbox_of []; given_up = 0 }
+
+-- the record a afterwards, and nothing else
+abbrev pub quietly : AccessPoint → Action
+quietly a = record { point = a; sent = outbox_of []; given_up = 0 }
+
+-- of the record a: what an accepted event does, or a as it came and the refusal
+abbrev pub done_of : AccessPoint → Result Action Refusal → Done
+done_of a (Ok x) = record { answer = 0; point = x.point; sent = x.sent; given_up = x.given_up }
+done_of a (Err r) = unchanged_by (refusal_number r) a
 
 -- a join, put back into the record a; refused, a as it came
 abbrev pub joining_of : AccessPoint → Result Joining Refusal → Done

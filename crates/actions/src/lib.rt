@@ -2,7 +2,6 @@
 #![tactic(auto)]
 
 ghost use Rattle.std.specs.Prelude.{◌≡◌, true, [], map, ◌≤◌, ◌<◌, IfOk};
-ghost use Rattle.answers.specs.Numbers.{number_of};
 ghost use Rattle.machine.specs.Stations.{is_group};
 ghost use Rattle.lists.specs.Places.{every};
 ghost use Rattle.machine.specs.Packets.{carried, readable, octets_in};
@@ -12,36 +11,37 @@ ghost use Rattle.sending.specs.Sends.{sequence_within};
 ghost use Rattle.in_flight.specs.Post.{outbox_of};
 ghost use Rattle.excerpt.specs.Excerpts.{put_back, Allowed, Seen};
 ghost use Rattle.joining.specs.Join.{sends_by};
-ghost use Rattle.actions.specs.Done.{done_of, joining_of, unchanged_by, join_of, leave_of, tick_of, receive_of, lose_of};
+ghost use Rattle.actions.specs.Done.{quietly, done_of, joining_of, join_of, leave_of, tick_of, receive_of, lose_of};
 
-use answers::{Answer, Refusal};
+use answers::Refusal;
 use elements::InFlight;
 use excerpt::Excerpt;
 use in_flight::Outbox;
 use joining::{Notice, Request};
 use record::{AccessPoint, Setup};
 
+// What an accepted event does: the record afterwards, the packets sent, and how many moves were given up.
 #[derive(Clone, Copy)]
 pub struct Action {
     pub point: AccessPoint,
     pub sent: Outbox,
-    pub answer: Answer,
     pub given_up: u8,
 }
 
-// The record as it came, nothing sent, and the answer.
-pub fn unchanged(a: AccessPoint, answer: Answer) -> Action
-    ensures { done_of result ≡ unchanged_by (number_of answer) a }
+// The record a afterwards, and nothing else.
+#[tactic(auto, using(sending::proofs::Outboxes::outbox_none))]
+pub fn quietly(a: AccessPoint) -> Action
+    ensures { result ≡ quietly a }
 {
     Action {
-        answer,
         point: a,
-        sent: sending::nothing(),
+        sent: Outbox::none(),
         given_up: 0,
     }
 }
 
 // Whether the station's first octet is odd.
+#[tactic(auto, using(crate::proofs::Laws::first_octet))]
 pub fn is_group(station: [u8; 6]) -> bool
     ensures { result ≡ is_group station }
 {
@@ -54,7 +54,7 @@ fn notice_sent(own: u8, ap_count: u8, station: [u8; 6], sequence: u16, notice: N
     ensures { result ≡ outbox_of (map (carried own) (sends_by own ap_count station sequence notice)) }
 {
     match notice {
-        Notice::Silent => sending::nothing(),
+        Notice::Silent => Outbox::none(),
         Notice::Announce(identifier) => {
             sending::announce(own, ap_count, identifier, station, sequence)
         }
@@ -110,88 +110,91 @@ pub fn join_excerpt(
 }
 
 // The same at the AP's whole record.
-pub fn join(a: AccessPoint, at: u16, setup: Setup, request: Request, context: &[u8]) -> Action
+pub fn join(
+    a: AccessPoint,
+    at: u16,
+    setup: Setup,
+    request: Request,
+    context: &[u8],
+) -> Result<Action, Refusal>
     requires usable { Usable a }
     requires ap_count_bound { setup.ap_count ≤ 8 }
-    ensures { done_of result ≡ join_of at setup.ap_count setup.timeout setup.resend_limit request.station request.sequence request.old context.now a }
+    ensures { done_of a result ≡ join_of at setup.ap_count setup.timeout setup.resend_limit request.station request.sequence request.old context.now a }
 {
-    match join_excerpt(excerpt::of(a, request.station), at, setup, request, context) {
-        Ok(j) => Action {
-            answer: Ok(()),
-            point: excerpt::put_back(a, j.after),
-            sent: j.sent,
-            given_up: 0,
-        },
-        Err(r) => unchanged(a, Err(r)),
-    }
+    let x = excerpt::of(&a, request.station);
+    let j = join_excerpt(x, at, setup, request, context)?;
+    Ok(Action {
+        point: excerpt::put_back(&a, &j.after),
+        sent: j.sent,
+        given_up: 0,
+    })
 }
 
 // A station leaves AP `at` of ap_count: 11, 13, then its association is removed.
-pub fn leave(a: AccessPoint, at: u16, ap_count: u8, station: [u8; 6]) -> Action
+pub fn leave(a: AccessPoint, at: u16, ap_count: u8, station: [u8; 6]) -> Result<Action, Refusal>
     requires { Usable a }
-    ensures { done_of result ≡ leave_of at ap_count station a }
+    ensures { done_of a result ≡ leave_of at ap_count station a }
 {
     if ap_count as u16 <= at {
-        return unchanged(a, Err(Refusal::UnknownAccessPoint));
+        return Err(Refusal::UnknownAccessPoint);
     }
     if is_group(station) {
-        return unchanged(a, Err(Refusal::GroupAddress));
+        return Err(Refusal::GroupAddress);
     }
-    let left = receiving::leave(excerpt::of(a, station));
-    unchanged(excerpt::put_back(a, left), Ok(()))
+    let left = receiving::leave(excerpt::of(&a, station));
+    Ok(quietly(excerpt::put_back(&a, &left)))
 }
 
-// A tick at AP `at` of ap_count: 11, then the notices of the moves that are due are sent again.
-pub fn tick(a: AccessPoint, at: u16, ap_count: u8, timeout: u16) -> Action
+// A tick at AP `at` of ap_count: 11, then the notices of the moves that are due are sent again. Takes AP count and T, and no Setup: it has no
+// use for R.
+pub fn tick(a: AccessPoint, at: u16, ap_count: u8, timeout: u16) -> Result<Action, Refusal>
     requires usable { Usable a }
     requires moves_value { every sequence_within (get_moves a.moves) ≡ true }
-    ensures { done_of result ≡ tick_of at ap_count timeout a }
+    ensures { done_of a result ≡ tick_of at ap_count timeout a }
 {
     if ap_count as u16 <= at {
-        return unchanged(a, Err(Refusal::UnknownAccessPoint));
+        return Err(Refusal::UnknownAccessPoint);
     }
     let t = access_point::tick(a, timeout);
-    Action {
-        answer: Ok(()),
+    Ok(Action {
         point: t.point,
         sent: sending::resend(at as u8, t.due),
         given_up: t.given_up,
-    }
+    })
 }
 
 // Packet p, number `at` of `count` in flight, is handed to its receiver, whose record is a: 12, then the receiver acts.
-pub fn receive(a: AccessPoint, p: InFlight, at: u16, count: usize) -> Action
+pub fn receive(a: AccessPoint, p: InFlight, at: u16, count: usize) -> Result<Action, Refusal>
     requires usable { Usable a }
     requires len_bound { at < count → (p.len ≤ 82) × (readable (octets_in p) ≡ true) }
-    ensures { done_of result ≡ receive_of at count p a }
+    ensures { done_of a result ≡ receive_of at count p a }
 {
     if count <= at as usize {
-        return unchanged(a, Err(Refusal::UnknownPacket));
+        return Err(Refusal::UnknownPacket);
     }
     let octets = &p.octets[..p.len];
     let r = reader::fields(octets);
     let end = r.start + r.len;
-    let x = excerpt::of(a, r.station);
+    let x = excerpt::of(&a, r.station);
     let h = receiving::receive(x, p.from, r, &octets[r.start..end]);
     let sent = match h.reply {
         Some(reply) => sending::one(sending::response(p.to, p.from, r, reply)),
-        None => sending::nothing(),
+        None => Outbox::none(),
     };
-    let point = excerpt::put_back(a, h.after);
-    Action {
-        answer: Ok(()),
+    let point = excerpt::put_back(&a, &h.after);
+    Ok(Action {
         point,
         sent,
         given_up: 0,
-    }
+    })
 }
 
 // Packet `at` of `count` in flight is lost: 12. No AP acts.
-pub fn lose(a: AccessPoint, at: u16, count: usize) -> Action
-    ensures { done_of result ≡ lose_of at count a }
+pub fn lose(a: AccessPoint, at: u16, count: usize) -> Result<Action, Refusal>
+    ensures { done_of a result ≡ lose_of at count a }
 {
     if count <= at as usize {
-        return unchanged(a, Err(Refusal::UnknownPacket));
+        return Err(Refusal::UnknownPacket);
     }
-    unchanged(a, Ok(()))
+    Ok(quietly(a))
 }

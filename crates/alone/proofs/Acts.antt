@@ -24,17 +24,17 @@ use Rattle.record.specs.declared.AccessPoint.{AccessPoint}
 use Rattle.record.specs.declared.LoneAccessPoint.{LoneAccessPoint}
 use Rattle.record.specs.Lens.{get_associations, get_point, put_point}
 use Rattle.record.specs.Valid.{valid_lone_record}
-use Rattle.record.proofs.LensLaws.{associations_length}
 use Rattle.associations.specs.Rows.{is_of}
 use Rattle.associations.proofs.Laws.{holds_at}
 use Rattle.access_point.specs.Outside.{with_record}
-use Rattle.in_flight.specs.declared.Outbox.{Outbox}
 use Rattle.in_flight.specs.Post.{outbox_of}
 use Rattle.in_flight.proofs.Posted.{outbox_got}
 use Rattle.actions.specs.Done.{Done, done_by, unchanged_by, decided, off_floor, join_of, tick_of}
 use Rattle.alone.specs.Told.{Told, told_of, reply_with, answered, receivers_of, reply_to, front_of, done_alone, too_short, acts_unless, not_valid_test, join_alone, leave_alone, tick_alone, who_alone}
-use Rattle.alone.specs.Front.{octets_in_all, receiver, outbox_octets, outbox_receivers, Posted, posted_of, posted_into}
+use Rattle.alone.specs.Front.{octets_in_all, receiver, outbox_octets, outbox_receivers, Posted, posted_of, posted_into, tell}
 use Rattle.alone.proofs.Within.{number_within}
+use Rattle.in_flight.specs.declared.Outbox.{Outbox}
+use lib.Seq.{length-take-le}
 
 -- What is posted
 
@@ -55,7 +55,7 @@ module _ (n : ℕ) (o : Outbox) (g : ℕ) (b : List ℕ) where
 -- What is carried, written and received
 
 octets_sent : (b : ℕ) (xs : List Outgoing) → octets_in_all (map (carried b) xs) ≡ written_all xs
-unfolding octets_in_all written_all
+unfolding written_all
 octets_sent b [] = refl
 octets_sent b (x ∷ xs) = rw (carried_octets b x, octets_sent b xs)
 
@@ -78,10 +78,6 @@ module _ (b : ℕ) (xs : List Outgoing) where
   count_is = length-map xs (carried b)
 
 -- What is told
-
--- of an action d, whose packets were posted as p
-abbrev pub tell : LoneAccessPoint → Done → Posted → Told
-tell l d p = told_of (record { lone = cond (accepts p.reply.answer) (with_record d.point l) l; reply = p.reply }) p.buffer
 
 pub tell_done : (l : LoneAccessPoint) (d : Done) (p : Posted) → p.reply.answer ≡ 0
     → told_of (record { lone = with_record d.point l; reply = p.reply }) p.buffer ≡ tell l d p
@@ -200,7 +196,7 @@ module _ (l : LoneAccessPoint) (s : Station) where
   unfolding holds get_point
   holds_by j b h e q =
       holds_at s (get_associations l.point.associations)
-      ∙ rw (sym e, associations_length l.point.associations h) q
+      ∙ rw (sym e, length-take-le l.point.associations.count l.point.associations.items h) q
 
   pub who_told : valid_lone_record l ≡ true → is_group s ≡ false → (j : ℕ) (b : Bool) → l.point.associations.count ≤ length l.point.associations.items
       → j ≡ index_by (is_of s) (get_associations l.point.associations) → ltb j l.point.associations.count ≡ b

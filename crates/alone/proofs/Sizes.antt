@@ -19,25 +19,26 @@ use Rattle.machine.specs.Associations.{padded}
 use Rattle.machine.specs.Packets.{Outgoing, written, carried}
 use Rattle.machine.specs.AccessPoint as machine
 use Rattle.record.specs.declared.AccessPoint.{AccessPoint}
-use Rattle.record.proofs.Over.{over_new}
-use Rattle.network.specs.Lens.{no_in_flight}
+use Rattle.slots.proofs.Over.{over_new}
 use Rattle.network.proofs.Sizes.{each_all}
-use Rattle.in_flight.specs.declared.Outbox.{Outbox}
 use Rattle.in_flight.specs.Post.{get_outbox, outbox_of}
 use Rattle.in_flight.proofs.Posted.{outbox_got}
 use Rattle.actions.specs.declared.Action.{Action}
-use Rattle.actions.specs.Done.{Done, done_of, done_by, decided}
+use Rattle.actions.specs.Done.{Done, done_by, decided}
 use Rattle.actions.specs.declared.Joining.{Joining}
 use Rattle.actions.specs.contracts.Action as A
+use Rattle.alone.specs.Front.{Sized, Packed}
+use Rattle.in_flight.specs.declared.Outbox.{Outbox}
+use Rattle.elements.specs.Blanks.{no_in_flight}
 use Rattle.actions.specs.contracts.Joining as J
 use Rattle.alone.specs.Front.{Sized, Packed, Sends}
 
 -- 82 octets
-abbrev Slots : InFlight → Type 0
-Slots p = length p.octets ≡ 82
+abbrev Whole : InFlight → Type 0
+Whole p = length p.octets ≡ 82
 
 -- what is carried fits its slots
-carried_sized : (b : ℕ) (xs : List Outgoing) → All Slots (map (carried b) xs) → All Sized (map (carried b) xs)
+carried_sized : (b : ℕ) (xs : List Outgoing) → All Whole (map (carried b) xs) → All Sized (map (carried b) xs)
 unfolding carried padded
 carried_sized b [] nil = nil
 carried_sized b (x ∷ xs) (cons h hs) =
@@ -46,7 +47,7 @@ carried_sized b (x ∷ xs) (cons h hs) =
     cons (record { used = l; slots = h }) (carried_sized b xs hs)
 
 -- an outbox with its eight slots, each of 82 octets
-module _ (o : Outbox) (n : length o.items ≡ 8) (ss : All Slots o.items) where
+module _ (o : Outbox) (n : length o.items ≡ 8) (ss : All Whole o.items) where
   -- eight packets at most, of 82 octets at most
   packed : (b : ℕ) (ys : List Outgoing) → o ≡ outbox_of (map (carried b) ys) → Packed o
   unfolding outbox_of
@@ -60,34 +61,24 @@ module _ (o : Outbox) (n : length o.items ≡ 8) (ss : All Slots o.items) where
       record {
         count = omega (arith, n, m, c, length-append ps (replicate (8 - length ps) no_in_flight));
         slots = n;
-        sizes = subst (All Sized) (sym got) (carried_sized b ys (subst (All Slots) t (all_take (length ps) ss)));
+        sizes = subst (All Sized) (sym got) (carried_sized b ys (subst (All Whole) t (all_take (length ps) ss)));
       }
 
-  -- the same of what is decided by tests
-  packed_by : (ts : List Test) (b : ℕ) (a : AccessPoint) (y : machine.Action) → o ≡ (decided ts b a y).sent → Packed o
-  unfolding decided done_by
-  packed_by ts b a y e =
-      by_cond (λ (d : Done). o ≡ d.sent → Packed o) (accepts (first_of ts))
-      (λ q. packed b y.sends)
-      (λ q. packed b [])
-      e
-
--- what an action sends
-
-pub action_packed : (x : Action) (vs : List Val) → Is (row A.the_type) x vs → (ts : List Test) (b : ℕ) (a : AccessPoint) (y : machine.Action) → done_of x ≡ decided ts b a y → Packed x.sent
-action_packed x vs g ts b a y e =
-    let p = g.1.1.1.0.1.1.0 in
-    packed_by x.sent (p.1.0.1) (each_all (F.the_row).own_val x.sent.items p.0 (λ p u h. h.1.1.1.1.1.0.1.0.1) p.1.1) ts b a y (ap (λ (d : Done). d.sent) e)
-
--- an accepted join's outbox has what the AP sends, and its type gives the slots
-
-pub join_sends : (o : Outbox) (ts : List Test) (b : ℕ) (a : AccessPoint) (y : machine.Action) → o ≡ (decided ts b a y).sent → Sends o
+-- what an access point does sends what the AP sends
+pub decided_sends : (o : Outbox) (ts : List Test) (b : ℕ) (a : AccessPoint) (y : machine.Action) → o ≡ (decided ts b a y).sent → Sends o
 unfolding decided done_by
-join_sends o ts b a y e =
+decided_sends o ts b a y e =
     by_cond (λ (d : Done). o ≡ d.sent → Sends o) (accepts (first_of ts))
     (λ q h. record { from = b; sends = y.sends; same = h })
     (λ q h. record { from = b; sends = []; same = h })
     e
+
+-- and the types of an accepted join and of an action give the slots
+
+pub action_packed : (x : Action) (vs : List Val) → Is (row A.the_type) x vs → Sends x.sent → Packed x.sent
+action_packed x vs g h =
+    let p = g.1.1.1.0.1.1.0 in
+    packed x.sent (p.1.0.1) (each_all (F.the_row).own_val x.sent.items p.0 (λ p u h. h.1.1.1.1.1.0.1.0.1) p.1.1) h.from h.sends h.same
 
 pub join_packed : (x : Joining) (vs : List Val) → Is (row J.the_type) x vs → Sends x.sent → Packed x.sent
 join_packed x vs g h =

@@ -13,11 +13,12 @@ use Rattle.machine.specs.Network.{setup_tests}
 use Rattle.machine.specs.Lone.{written_all}
 use Rattle.machine.specs.Valid.{valid_association, distinct, valid_move, valid_point, valid_setup}
 use Rattle.record.specs.declared.LoneAccessPoint.{LoneAccessPoint}
-use Rattle.record.specs.Slots.{over, no_association, no_move}
-use Rattle.record.specs.Lens.{get_associations, put_associations, get_moves, put_moves, named, bare, get_point, put_point}
+use Rattle.record.specs.Lens.{named, bare, get_point, put_point}
 use Rattle.record.specs.Valid.{valid_record, valid_lone_record}
 use Rattle.network.specs.Lens.{new_point}
 use Rattle.alone.specs.Told.{Told, reply_with, answered, reply_to, done_alone, acts_unless, set_up_alone, old_named, join_alone, tick_alone, who_alone}
+use Rattle.slots.specs.Lists.{over}
+use Rattle.elements.specs.Blanks.{no_association, no_move}
 
 -- the station 02 00 00 00 00 01, and a group of stations
 abbrev station : Station
@@ -61,12 +62,12 @@ join_with s n size = join_alone new s n None (171 ∷ []) (replicate size 7)
 -- a join that names no old AP: one ADD-notify goes to AP 0 and one to AP 2. A buffer of 31 octets is 10. 13 comes before 7, and 7 before 10
 pub replies : (join_with station 10 33).outcome.reply ∷ (join_with station 10 31).outcome.reply ∷ (join_with group 4096 0).outcome.reply ∷ (join_with station 4096 0).outcome.reply ∷ []
     ≡ record { answer = 0; sent = 2; given_up = 0; held = 0; to = 0 ∷ 2 ∷ replicate 6 0; len = 32 } ∷ reply_with 10 ∷ reply_with 13 ∷ reply_with 7 ∷ []
-unfolding join_alone acts_unless valid_lone_record valid_record valid_point valid_setup setup_tests get_point get_associations get_moves new_point every distinct origin_of group_address is_group sequence_of needs_move join_from add_notifies done_alone reply_to written_all written fields_as octets_of padded nothing
+unfolding join_alone acts_unless valid_lone_record valid_record valid_point valid_setup setup_tests get_point new_point every distinct origin_of group_address is_group sequence_of needs_move join_from add_notifies done_alone reply_to written_all written fields_as octets_of padded nothing
 replies = refl
 
 -- the two packets stand at the front of the buffer, and its rest stays; refused, it is as it came
 pub buffers : (join_with station 10 33).buffer ∷ (join_with station 10 31).buffer ∷ [] ≡ (add ++ add ++ (7 ∷ [])) ∷ replicate 31 7 ∷ []
-unfolding join_alone acts_unless valid_lone_record valid_record valid_point valid_setup setup_tests get_point get_associations get_moves new_point every distinct origin_of group_address is_group sequence_of needs_move join_from add_notifies done_alone reply_to written_all written fields_as octets_of padded nothing
+unfolding join_alone acts_unless valid_lone_record valid_record valid_point valid_setup setup_tests get_point new_point every distinct origin_of group_address is_group sequence_of needs_move join_from add_notifies done_alone reply_to written_all written fields_as octets_of padded nothing
 buffers = refl
 
 -- tick and who
@@ -81,5 +82,5 @@ pub lapses : (let t = (tick_alone moved []).outcome in t.reply ∷ (tick_alone t
     ∷ record { answer = 0; sent = 0; given_up = 0; held = 1; to = replicate 8 0; len = 0 }
     ∷ reply_with 0
     ∷ []
-unfolding join_alone acts_unless valid_lone_record valid_record valid_point valid_association valid_move valid_setup setup_tests get_point get_associations get_moves put_point put_associations put_moves over named bare new_point no_association no_move every distinct origin_of group_address is_group sequence_of held_context given association associate same needs_move joined with_associations with_moves use_identifier join_from new_move opening counts_after counted notice_of notices_of tick_by timed fate kept_from kept resent_by resends lapsed_by lapsed ticking tick_alone who_alone holds done_alone reply_to written_all written fields_as octets_of padded nothing
+unfolding join_alone acts_unless valid_lone_record valid_record valid_point valid_association valid_move valid_setup setup_tests get_point put_point over named bare new_point no_association no_move every distinct origin_of group_address is_group sequence_of held_context given association associate same needs_move joined with_associations with_moves use_identifier join_from new_move opening counts_after counted notice_of notices_of tick_by timed fate kept_from kept resent_by resends lapsed_by lapsed ticking tick_alone who_alone holds done_alone reply_to written_all written fields_as octets_of padded nothing
 lapses = refl

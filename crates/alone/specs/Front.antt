@@ -1,19 +1,26 @@
 -- The packets of an outbox, written one after the other at the front of a lent buffer: what the functions below the calls promise.
-use Rattle.std.specs.Prelude.{ℕ, ◌≤◌, ◌≡◌, cond, List, [], ◌∷◌, ◌++◌, map, ltb, length}
+use Rattle.std.specs.Prelude.{ℕ, ◌≤◌, ◌≡◌, cond, List, map, ltb, length}
+use Rattle.std.specs.List.{flat_map}
 use Rattle.lists.specs.Table.{accepts}
 use Rattle.lists.specs.Places.{All}
 use Rattle.elements.specs.declared.InFlight.{InFlight}
 use Rattle.machine.specs.Associations.{padded}
 use Rattle.machine.specs.Packets.{Outgoing, octets_in, carried}
+use Rattle.record.specs.declared.LoneAccessPoint.{LoneAccessPoint}
+use Rattle.access_point.specs.Outside.{with_record}
+use Rattle.actions.specs.Done.{Done}
 use Rattle.in_flight.specs.declared.Outbox.{Outbox}
 use Rattle.in_flight.specs.Post.{get_outbox, outbox_of}
 use Rattle.alone.specs.declared.Reply.{Reply}
-use Rattle.alone.specs.Told.{reply_with, front_of}
+use Rattle.alone.specs.Told.{Told, told_of, reply_with, front_of}
 
 -- the used octets of packets, one after the other
-unfoldable pub octets_in_all : List InFlight → List ℕ
-octets_in_all [] = []
-octets_in_all (p ∷ ps) = octets_in p ++ octets_in_all ps
+abbrev pub octets_in_all : List InFlight → List ℕ
+octets_in_all ps = flat_map octets_in ps
+
+-- how many octets of a packet are used
+abbrev pub len_of : InFlight → ℕ
+len_of p = p.len
 
 -- the receiver of a packet
 abbrev pub receiver : InFlight → ℕ
@@ -59,3 +66,7 @@ posted_into n o g b =
     (cond (ltb (length b) (length (outbox_octets o))) (posted_of (reply_with 10) b)
     (posted_of (record { answer = 0; sent = o.count; given_up = g; held = 0; to = outbox_receivers o; len = length (outbox_octets o) }) (front_of (outbox_octets o) b)))
     (posted_of (reply_with n) b)
+
+-- the AP alone l did d, whose packets were posted as p: a reply that refuses leaves the record as it came
+abbrev pub tell : LoneAccessPoint → Done → Posted → Told
+tell l d p = told_of (record { lone = cond (accepts p.reply.answer) (with_record d.point l) l; reply = p.reply }) p.buffer

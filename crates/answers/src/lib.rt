@@ -45,7 +45,8 @@ impl From<Refusal> for u8 {
     }
 }
 
-// Document 01's number of an answer: 0, or the refusal's.
+// Document 01's number of an answer: 0, or the refusal's. Stays a function: the library's Result has no From into a number, and a crate
+// can give it none.
 pub fn number(a: Answer) -> u8
     ensures { result ≡ number_of a }
 {

@@ -1,27 +1,32 @@
 -- Rows of different stations, by their places; and what is noted of the stations of the rows passed: how each one ends.
 -- Assumes nothing.
-use Prim.Native.Nat.{ℕ, zero, suc, ◌+◌, ◌%◌, ◌<◌, ◌≤◌}
+use Prim.Native.Nat.{ℕ, zero, suc, ◌+◌, ◌%◌, ◌<◌}
 use mathlib.Core.Path.{◌≡◌, refl, sym, ap, subst, ◌∙◌}
-use mathlib.Core.Bool.{Bool, true, false, cond}
+use mathlib.Core.Bool.{Bool, true, false, cond, not, false≢true}
 use mathlib.Core.List.{List, [], ◌∷◌}
-use Rattle.std.specs.Prelude.{Some, is_some}
 use mathlib.Core.Logic.{◌⊎◌, inl, inr}
 use native.Mathlib.Nat.{not-suc-le-zero, le_of_suc-le-suc, eq-or-lt_of_le}
 use native.Mathlib.Omega.{arith}
+use borrow.Author.Tests.{ltb-false, not-true}
+use lib.Dec.{ltb}
 use lib.ListN.{length, take, get_or, set}
-use lib.Seq.{length-take-le, get_or-set_same}
-use Rattle.lists.specs.Search.{index_by}
+use lib.Seq.{length-take-le, get_or-take, get_or-set_same}
+use Rattle.std.specs.Prelude.{Option, None, Some, is_some}
+use Rattle.std.specs.List.{position, position_or_len}
+use Rattle.std.proofs.lemmas.List.Quantifiers.{position-Some}
+use Rattle.std.proofs.lemmas.List.Sums.{prefix_len_passes}
 use Rattle.lists.proofs.Choices.{and_false, not_both}
 use Rattle.lists.proofs.Every.{get_or_set}
-use Rattle.lists.proofs.Search.{get_or_used}
 use Rattle.elements.specs.declared.Association.{Association}
 use Rattle.machine.specs.Stations.{same}
 use Rattle.machine.specs.Associations.{sequence_of}
 use Rattle.machine.specs.Valid.{distinct}
-use Rattle.machine.proofs.Stations.{same_of_eq, same_of_ne}
+use Rattle.machine.proofs.Stations.{same_true, same_of_eq, same_of_ne}
 use Rattle.associations.specs.Rows.{is_of}
-use Rattle.associations.proofs.Used.{past}
-use Rattle.associations.proofs.Laws.{station_at_lem}
+
+-- what a read past the end of an array of rows gives, in the logic
+abbrev pub past : Association
+past = record { station = []; sequence = 0; context_len = 0; context = [] }
 
 -- the station of row i
 abbrev pub station_at : List Association → ℕ → List ℕ
@@ -61,7 +66,7 @@ held s (r ∷ rs) (suc k) l e = go (same s r.station) (held s rs k (le_of_suc-le
     go true h = refl
     go false h = h
 
-apart_distinct : (rs : List Association) → Apart rs (length rs) → distinct rs ≡ true
+pub apart_distinct : (rs : List Association) → Apart rs (length rs) → distinct rs ≡ true
 unfolding distinct
 apart_distinct [] h = refl
 apart_distinct (r ∷ rs) h =
@@ -75,41 +80,34 @@ twice_not_distinct (r ∷ rs) zero (suc i) k l e = rw (held r.station rs i (le_o
 twice_not_distinct (r ∷ rs) (suc j) (suc i) k l e =
     rw (twice_not_distinct rs j i (le_of_suc-le-suc k) (le_of_suc-le-suc l) e, and_false)
 
--- a search passes only what it does not look for
-passed : {A : Type 0} (p : A → Bool) (d : A) (xs : List A) (j : ℕ) → j < index_by p xs → p (get_or xs j d) ≡ false
-passed p d [] j l = absurd (not-suc-le-zero l)
-passed p d (x ∷ xs) j l = go (p x) refl j l (passed p d xs)
-  where
-    go : (b : Bool) → p x ≡ b → (j : ℕ) → j < cond b 0 (suc (index_by p xs)) → ((k : ℕ) → k < index_by p xs → p (get_or xs k d) ≡ false) → p (get_or (x ∷ xs) j d) ≡ false
-    go true e j l h = absurd (not-suc-le-zero l)
-    go false e zero l h = e
-    go false e (suc j) l h = h j (le_of_suc-le-suc l)
+-- a search for the station of row i among the rows before it
+module _ (rs : List Association) (i : ℕ) (l : i < length rs) where
+  -- it finds one
+  pub found_earlier : is_some (position (is_of (station_at rs i)) (take i rs)) ≡ true → distinct rs ≡ false
+  found_earlier = go (position (is_of (station_at rs i)) (take i rs)) refl
+    where
+      go : (o : Option ℕ) → position (is_of (station_at rs i)) (take i rs) ≡ o → is_some o ≡ true → distinct rs ≡ false
+      go None e h = absurd (false≢true h)
+      go (Some j) e h =
+          let q = position-Some (is_of (station_at rs i)) (take i rs) j past e in
+          let k : j < i = omega (arith, q.0, length-take-le i rs (omega arith)) in
+          twice_not_distinct rs j i k l
+          (sym (same_true (station_at rs i) (station_at (take i rs) j) q.1 ∙ ap (λ (r : Association). r.station) (get_or-take i rs j past k)))
 
--- the first n rows of an array of rows
-module _ (n : ℕ) (rs : List Association) (l : n ≤ length rs) where
-  station_used : (i : ℕ) → i < n → station_at (take n rs) i ≡ station_at rs i
-  station_used i k = ap (λ (r : Association). r.station) (get_or_used n rs i past past k l)
-
-  pub apart_used : Apart rs n → distinct (take n rs) ≡ true
-  apart_used h =
-      let m : length (take n rs) ≡ n = length-take-le n rs l in
-      apart_distinct (take n rs) (λ i k j g e. h i (omega arith) j g (sym (station_used j (omega arith)) ∙ e ∙ station_used i (omega arith)))
-
-  -- a search for the station of row i
-  module _ (i : ℕ) (k : i < n) where
-    -- it ends before row i
-    pub found_earlier : index_by (is_of (station_at rs i)) (take n rs) < i → distinct (take n rs) ≡ false
-    found_earlier h =
-        let m : length (take n rs) ≡ n = length-take-le n rs l in
-        twice_not_distinct (take n rs) (index_by (is_of (station_at rs i)) (take n rs)) i h (omega arith)
-        (station_at_lem (station_at rs i) past (take n rs) (omega arith) ∙ sym (station_used i k))
-
-    -- it does not
-    pub not_earlier : i ≤ index_by (is_of (station_at rs i)) (take n rs) → Fresh rs i
-    not_earlier h j g e =
-        not_both
-        (same_of_eq (station_at rs i) (station_at (take n rs) j) (sym (station_used j (omega arith) ∙ e)))
-        (passed (is_of (station_at rs i)) past (take n rs) j (omega arith))
+  -- it finds none
+  pub not_earlier : is_some (position (is_of (station_at rs i)) (take i rs)) ≡ false → Fresh rs i
+  not_earlier = go (ltb (position_or_len (is_of (station_at rs i)) (take i rs)) (length (take i rs))) refl
+    where
+      go : (b : Bool) → ltb (position_or_len (is_of (station_at rs i)) (take i rs)) (length (take i rs)) ≡ b
+          → is_some (cond b (Some (position_or_len (is_of (station_at rs i)) (take i rs))) None) ≡ false → Fresh rs i
+      go true e h = not_both refl h
+      go false e h =
+          λ j k q.
+          let m : length (take i rs) ≡ i = length-take-le i rs (omega arith) in
+          let n : j < position_or_len (is_of (station_at rs i)) (take i rs) = omega (arith, ltb-false _ _ e) in
+          not_both
+          (same_of_eq (station_at rs i) (station_at (take i rs) j) (sym (ap (λ (r : Association). r.station) (get_or-take i rs j past k) ∙ q)))
+          (not-true (is_of (station_at rs i) (get_or (take i rs) j past)) (prefix_len_passes (λ (r : Association). not (is_of (station_at rs i) r)) (take i rs) j past n))
 
 -- how the stations end
 

@@ -7,7 +7,7 @@ use mathlib.Core.List.{List, [], ◌∷◌}
 use Rattle.std.specs.Prelude.{None, Some, is_some}
 use native.Mathlib.Numerals.{add-one}
 use native.Mathlib.Omega.{arith}
-use borrow.Author.Tests.{ltb-true, ltb-false, lt-ltb, le-ltb, eqb-true, not-true}
+use borrow.Author.Tests.{ltb-true, ltb-false, lt-ltb, le-ltb, not-true}
 use lib.Dec.{ltb, eqb}
 use lib.ListN.{length, get_or, length-set, length-append}
 use Rattle.lists.specs.Options.{case_option}
@@ -19,20 +19,11 @@ use Rattle.lists.proofs.Search.{length_without}
 use Rattle.sequence.specs.Distance.{newer_of}
 use Rattle.elements.specs.declared.Association.{Association}
 use Rattle.machine.specs.Stations.{same}
+use Rattle.machine.proofs.Stations.{same_true}
 use Rattle.machine.specs.Associations.{given, association, sequence_of, held_context, associate, dissociate, dissociate_older, dissociate_exactly, fill}
 use Rattle.machine.specs.Valid.{distinct}
 use Rattle.associations.specs.Rows.{is_of}
-use Rattle.associations.proofs.Used.{placed_in, placed_last}
-
-pub same_true : (a b : List ℕ) → same a b ≡ true → a ≡ b
-unfolding same
-same_true [] [] e = refl
-same_true [] (y ∷ ys) e = absurd (false≢true e)
-same_true (x ∷ xs) [] e = absurd (false≢true e)
-same_true (x ∷ xs) (y ∷ ys) e =
-    let p : x ≡ y = eqb-true x y (and_left (eqb x y) (same xs ys) e) in
-    let q : xs ≡ ys = same_true xs ys (and_right (eqb x y) (same xs ys) e) in
-    cc
+use Rattle.slots.proofs.Over.{placed_in, placed_last}
 
 -- places and lengths
 
@@ -44,15 +35,6 @@ ltb_suc i n = go (ltb i n) refl
     go false e = le-ltb (suc i) (suc n) (omega (arith, ltb-false i n e))
 
 module _ {A : Type 0} where
-  -- a search ends at the end at the latest
-  pub index_bound : (p : A → Bool) (xs : List A) → index_by p xs ≤ length xs
-  index_bound p [] = omega arith
-  index_bound p (x ∷ xs) = go (p x) (index_bound p xs)
-    where
-      go : (b : Bool) → index_by p xs ≤ length xs → cond b 0 (suc (index_by p xs)) ≤ suc (length xs)
-      go true h = omega arith
-      go false h = omega arith
-
   pub without_less : (i : ℕ) (xs : List A) → i < length xs → length (without i xs) ≡ length xs - 1
   without_less i xs h = omega (arith, length_without i xs h)
 

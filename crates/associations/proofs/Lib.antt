@@ -1,3 +1,2 @@
-pub mod Used
 pub mod Laws
 pub mod Apart

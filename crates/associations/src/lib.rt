@@ -1,111 +1,69 @@
 // The table of one access point. Document 01: its rows, "in order of arrival".
 #![tactic(auto)]
 
-ghost use Rattle.std.specs.Prelude.{◌≡◌, ◌&&◌, ◌≤◌, ◌<◌, leb, length};
-ghost use Rattle.lists.specs.Places.{without, every};
-ghost use Rattle.lists.specs.Search.{index_by, placed};
+ghost use Rattle.std.specs.Prelude.{◌≡◌, ◌&&◌, ◌≤◌, leb, length};
+ghost use Rattle.std.specs.List.{position};
+ghost use Rattle.lists.specs.Places.{every};
+ghost use Rattle.lists.specs.Search.{index_by};
 ghost use Rattle.machine.specs.Associations.{association, given};
 ghost use Rattle.machine.specs.Valid.{valid_association, distinct};
-ghost use Rattle.record.specs.Slots.{no_association};
-ghost use Rattle.record.specs.Lens.{get_associations, put_associations};
+ghost use Rattle.record.specs.Lens.{get_associations};
 ghost use Rattle.associations.specs.Rows.{is_of};
 
 use elements::Association;
 use record::Associations;
 
+// Whether a row is the station's.
+fn is_of(row: &Association, station: [u8; 6]) -> bool
+    ensures { result ≡ is_of station row.now }
+{
+    station == row.station
+}
+
+// The place of the station's row among these, if it has one.
+fn place_of(rows: &[Association], station: [u8; 6]) -> Option<usize>
+    ensures { result ≡ position (is_of station) rows.now }
+{
+    rows.iter().position(|row| is_of(row, station))
+}
+
 // The place of the station's row, or the number of rows where it has none.
-pub fn find(t: Associations, station: [u8; 6]) -> usize
-    requires { t.count ≤ 16 }
-    ensures { result ≡ index_by (is_of station) (get_associations t) }
+pub fn find(t: &Associations, station: [u8; 6]) -> usize
+    requires { t.now.count ≤ 16 }
+    ensures { result ≡ index_by (is_of station) (get_associations t.now) }
 {
-    let end = t.count;
-    let mut i: usize = 0;
-    while i < end {
-        let row = t.items[i];
-        let s = row.station;
-        if stations::same_station(station, s) {
-            break;
-        }
-        i += 1;
-    }
-    i
+    let rows = t.used();
+    place_of(rows, station).unwrap_or(rows.len())
 }
 
-// A row that is not used.
-pub fn blank() -> Association
-    ensures { result ≡ no_association }
+// Whether a row's numbers are within document 01's limits.
+#[tactic(auto, unfolding(machine::specs::Valid::valid_association))]
+fn within_limits(row: &Association) -> bool
+    ensures { result ≡ valid_association row.now }
 {
-    Association {
-        station: [0u8; 6],
-        sequence: 0,
-        context_len: 0,
-        context: [0u8; 64],
-    }
-}
-
-// The table without row i: the later rows move up, and the freed slot is blank.
-pub fn remove(t: Associations, i: usize) -> Associations
-    requires { (t.count ≤ 16) × (i < t.count) }
-    ensures { result ≡ put_associations t (without i (get_associations t)) }
-{
-    let mut out = t;
-    let last = t.count - 1;
-    let mut k = i;
-    while k < last {
-        let row = out.items[k + 1];
-        out.items[k] = row;
-        k += 1;
-    }
-    let free = blank();
-    out.items[last] = free;
-    out.count = last;
-    out
-}
-
-// The table with x in the place of row i, or last where i is the number of rows.
-pub fn place(t: Associations, i: usize, x: Association) -> Associations
-    requires { (t.count ≤ 16) × (i ≤ t.count) × (i < 16) }
-    ensures { result ≡ put_associations t (placed i x (get_associations t)) }
-{
-    let n = t.count;
-    let mut out = t;
-    out.items[i] = x;
-    if i < n {
-        return out;
-    }
-    out.count = n + 1;
-    out
+    row.sequence <= 4095 && row.context_len <= 64
 }
 
 // Whether the table is one to which refusal 14 does not apply: the number of rows, each row's limits, and stations that differ.
 // A row's station is looked for among the earlier rows only where one of them ends in the same six bits.
-pub fn valid(t: Associations) -> bool
-    ensures { result ≡ leb t.count 16 && (every valid_association (get_associations t) && distinct (get_associations t)) }
+pub fn valid(t: &Associations) -> bool
+    ensures { result ≡ leb t.now.count 16 && (every valid_association (get_associations t.now) && distinct (get_associations t.now)) }
 {
-    let n = t.count;
-    if 16 < n {
+    if 16 < t.count {
         return false;
     }
+    let rows = t.used();
     // Which last six bits the stations of the rows passed have.
     let mut seen = [false; 64];
-    let mut i: usize = 0;
-    while i < n {
-        let row = t.items[i];
-        if 4095 < row.sequence {
+    for (i, row) in rows.iter().enumerate() {
+        if !within_limits(row) {
             return false;
         }
-        if 64 < row.context_len {
+        let ending = (row.station[5] % 64) as usize;
+        if seen[ending] && place_of(&rows[..i], row.station).is_some() {
             return false;
         }
-        let s = row.station;
-        let h = (s[5] % 64) as usize;
-        if seen[h] {
-            if find(t, s) < i {
-                return false;
-            }
-        }
-        seen[h] = true;
-        i += 1;
+        seen[ending] = true;
     }
     true
 }
@@ -115,22 +73,19 @@ pub fn new_association(station: [u8; 6], sequence: u16, context: &[u8]) -> Assoc
     requires { length context.now ≤ 64 }
     ensures { result ≡ association station sequence (given context.now) }
 {
-    let n = context.len();
-    let mut octets = [0u8; 64];
+    let mut octets = [0; 64];
     octets::copy(context, &mut octets);
     Association {
         station,
         sequence,
-        context_len: n,
+        context_len: context.len(),
         context: octets,
     }
 }
 
 // The same row with another number. Document 01: "context is kept if a row was there".
-pub fn renumbered(x: Association, sequence: u16) -> Association
-    ensures { result ≡ record { station = x.station; sequence = sequence; context_len = x.context_len; context = x.context } }
+pub fn renumbered(row: &Association, sequence: u16) -> Association
+    ensures { result ≡ record { station = row.now.station; sequence = sequence; context_len = row.now.context_len; context = row.now.context } }
 {
-    let mut out = x;
-    out.sequence = sequence;
-    out
+    Association { sequence, ..*row }
 }

@@ -2,6 +2,12 @@
 // record's arrays.
 #![tactic(auto)]
 
+ghost use Rattle.elements.specs.Blanks.{no_association, no_move, no_in_flight};
+
+use slots::Blank;
+
+// Lengths stay beside their arrays here: C lends these records.
+
 // Document 01: a row of an AP's table.
 #[repr(C)]
 #[derive(Clone, Copy, Debug, PartialEq, Eq)]
@@ -35,4 +41,49 @@ pub struct InFlight {
     // How many octets are used.
     pub len: usize,
     pub octets: [u8; 82],
+}
+
+// Blank slots stay written out: Default has no arrays of 64 or 82 octets.
+impl Blank for Association {
+    ghost blank = { no_association };
+
+    #[tactic(auto, unfolding(crate::specs::Blanks::no_association))]
+    fn blank() -> Association {
+        Association {
+            station: [0; 6],
+            sequence: 0,
+            context_len: 0,
+            context: [0; 64],
+        }
+    }
+}
+
+impl Blank for Move {
+    ghost blank = { no_move };
+
+    #[tactic(auto, unfolding(crate::specs::Blanks::no_move))]
+    fn blank() -> Move {
+        Move {
+            station: [0; 6],
+            sequence: 0,
+            old: 0,
+            identifier: 0,
+            ticks_left: 0,
+            resends_left: 0,
+        }
+    }
+}
+
+impl Blank for InFlight {
+    ghost blank = { no_in_flight };
+
+    #[tactic(auto, unfolding(crate::specs::Blanks::no_in_flight))]
+    fn blank() -> InFlight {
+        InFlight {
+            from: 0,
+            to: 0,
+            len: 0,
+            octets: [0; 82],
+        }
+    }
 }

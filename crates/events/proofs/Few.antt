@@ -43,7 +43,7 @@ notices_length [] = refl
 notices_length (m ∷ ms) = ap suc (notices_length ms)
 
 tick_few : (t : ℕ) (a : AccessPoint) → Usable a → FewSends (tick_by t (get_point a))
-unfolding tick_by get_point get_moves
+unfolding tick_by get_point
 tick_few t a u =
     let ms : List Open = map named (get_moves a.moves) in
     omega (arith, notices_length (resends t ms), resends_few t ms, length-map (get_moves a.moves) named, length-take a.moves.count a.moves.items, u.moves)

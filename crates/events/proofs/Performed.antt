@@ -153,7 +153,7 @@ module _ (w : Network) (z : NetworkFits w) (v : valid_network_record w ≡ true)
   -- An event with packet i: 12, then its receiver acts on it, whether it is taken out or not
 
   counted : (i : ℕ) → unknown_packet (get w) i ≡ no_packet w.in_flight.count i
-  unfolding unknown_packet get get_in_flight
+  unfolding unknown_packet get
   counted i = ap (λ (m : ℕ). no_packet m i) (length-take-le w.in_flight.count w.in_flight.items z.air)
 
   -- the packets in flight are no part of an access point's record
@@ -162,7 +162,7 @@ module _ (w : Network) (z : NetworkFits w) (v : valid_network_record w ≡ true)
   point_beside ws b = refl
 
   at_packet : (i : ℕ) (dp : InFlight) (f : floor.Network) → i < w.in_flight.count → receive_at i (get_in_flight w.in_flight) f ≡ receive_frame (get_or w.in_flight.items i dp) f
-  unfolding receive_at get_in_flight
+  unfolding receive_at
   at_packet i dp f l = rw (nth_used w.in_flight.count i w.in_flight.items dp l z.air)
 
   -- what its receiver does

@@ -18,17 +18,23 @@ use Rattle.machine.specs.Events.{given_up_count, quiet, act}
 use Rattle.record.specs.declared.AccessPoint.{AccessPoint}
 use Rattle.record.specs.Lens.{get_point, put_point}
 use Rattle.record.proofs.LensLaws.{Fits, point_kept}
-use Rattle.network.specs.declared.InFlights.{InFlights}
 use Rattle.network.specs.declared.Network.{Network}
 use Rattle.network.specs.Lens.{get_in_flight, put_in_flight, put_points, get, put}
 use Rattle.network.specs.Events.{Reply, line_of, reply_of, refused}
-use Rattle.network.proofs.LensLaws.{NetworkFits, in_flight_kept, points_kept, put_get}
+use Rattle.network.proofs.LensLaws.{NetworkFits, points_kept, put_get}
 use Rattle.network.proofs.Lent.{got_count}
-use Rattle.in_flight.specs.declared.Outbox.{Outbox}
 use Rattle.in_flight.specs.Post.{get_outbox, outbox_of, posted}
 use Rattle.in_flight.proofs.Posted.{sends_posted, outbox_got}
-use Rattle.actions.specs.Done.{unchanged_by, done_by}
-use Rattle.events.specs.Apart.{settled_by, stored_by}
+use Rattle.actions.specs.Done.{Done, unchanged_by, done_by, decided, receive_of, lose_of}
+use Rattle.std.specs.Prelude.{Option}
+use lib.Dec.{ltb}
+use Rattle.machine.specs.Stations.{Station}
+use Rattle.events.specs.declared.Kind.{Kind}
+use Rattle.events.specs.declared.Kind.TheVariants.{Join, Leave, Deliver, Repeat, Lose, Tick, Who}
+use Rattle.events.specs.Apart.{taken_for, action_for, settled_by, stored_by}
+use Rattle.in_flight.specs.declared.Outbox.{Outbox}
+use Rattle.network.specs.declared.InFlights.{InFlights}
+use Rattle.network.proofs.LensLaws.{in_flight_kept}
 
 -- one access point of n, put back alone
 points_set : (n b : ℕ) (xs : List AccessPoint) (d : AccessPoint) (p : machine.AccessPoint) → All Fits (take n xs) → b < n → n ≤ length xs
@@ -87,7 +93,7 @@ module _ (w : Network) (z : NetworkFits w) where
 
   -- the same of any that sends nothing
   pub settled_same : (taken : Bool) (i : ℕ) (o : Outbox) → taken ≡ false → o.count ≡ 0 → settled_by taken i o w.in_flight ≡ w.in_flight
-  unfolding settled_by get_outbox
+  unfolding settled_by
   settled_same taken i o e h =
       rw (e, h) (unfold posted in in_flight_kept w.in_flight z.air)
 
@@ -126,3 +132,31 @@ module _ (w : Network) (z : NetworkFits w) where
       (ap (λ (n : ℕ). reply n g (with_point b a (posted (get_outbox (outbox_of ps)) ws))) count
       ∙ ap (λ (qs : List InFlight). reply (length x.sends) g (with_point b a (posted qs ws))) (outbox_got ps)
       ∙ ap (reply (length x.sends) g) (sym (put_point_lem b d x.point (posted ps ws) l)))
+
+-- What an event that is refused leaves
+
+-- it takes no packet out
+takes_none : (k : Kind) (at : ℕ) (s : Station) (n : ℕ) (old : Option ℕ) (c : List ℕ) (kk t r m : ℕ) (a : AccessPoint) (p : InFlight) (x : ℕ)
+    → unchanged_by x a ≡ action_for k at s n old c kk t r m a p → (x ≡ 0 → ⊥) → taken_for k at m ≡ false
+takes_none Join at s n old c kk t r m a p x e h = refl
+takes_none Leave at s n old c kk t r m a p x e h = refl
+takes_none Deliver at s n old c kk t r m a p x e h = go (ltb at m) refl
+  where
+    go : (b : Bool) → ltb at m ≡ b → b ≡ false
+    go true q = absurd (h (ap (λ (d : Done). d.answer) e ∙ (unfold receive_of decided done_by in rw q refl)))
+    go false q = refl
+takes_none Repeat at s n old c kk t r m a p x e h = refl
+takes_none Lose at s n old c kk t r m a p x e h = go (ltb at m) refl
+  where
+    go : (b : Bool) → ltb at m ≡ b → b ≡ false
+    go true q = absurd (h (ap (λ (d : Done). d.answer) e ∙ (unfold lose_of in rw q refl)))
+    go false q = refl
+takes_none Tick at s n old c kk t r m a p x e h = refl
+takes_none Who at s n old c kk t r m a p x e h = refl
+
+-- so the record is as it came
+pub refused_stored : (w : Network) → NetworkFits w → (k : Kind) (at : ℕ) (s : Station) (n : ℕ) (old : Option ℕ) (c : List ℕ) (b i : ℕ) (d : AccessPoint) (p : InFlight) (x : ℕ)
+    → unchanged_by x (get_or w.points b d) ≡ action_for k at s n old c w.ap_count w.timeout w.resend_limit w.in_flight.count (get_or w.points b d) p → (x ≡ 0 → ⊥)
+    → stored_by w b (taken_for k at w.in_flight.count) i (unchanged_by x (get_or w.points b d)) ≡ refused x w
+refused_stored w z k at s n old c b i d p x e h =
+    rw (takes_none k at s n old c w.ap_count w.timeout w.resend_limit w.in_flight.count (get_or w.points b d) p x e h) (unchanged_is w z b i x d)

@@ -106,7 +106,6 @@ module _ (w : Network) (z : NetworkFits w) (v : valid_network_record w ≡ true)
 
   -- packet i
   pub packet_at : (i : ℕ) (d : InFlight) → i < w.in_flight.count → PacketWithin w.ap_count (get_or w.in_flight.items i d)
-  unfolding get_in_flight
   packet_at i d l =
       packet_says w.ap_count (get_or w.in_flight.items i d)
       (subst (λ (p : InFlight). valid_in_flight w.ap_count p ≡ true) (get_or_used w.in_flight.count w.in_flight.items i d d l z.air)

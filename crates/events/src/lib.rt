@@ -2,18 +2,20 @@
 // and what is then in flight, and stores the two: nothing else of the network changes, and nothing else is copied.
 #![tactic(auto)]
 
-ghost use Rattle.std.specs.Prelude.{◌≡◌, true, cond, map, ◌+◌, ◌*◌, ◌≤◌, ◌<◌, ltb, take};
+ghost use Rattle.std.specs.Prelude.{ℕ, ◌≡◌, true, cond, List, None, map, ◌+◌, ◌*◌, ◌≤◌, ◌<◌, ltb, length};
 ghost use Rattle.lists.specs.Places.{every, All};
 ghost use Rattle.machine.specs.Packets.{readable, octets_in};
+ghost use Rattle.machine.specs.Events as machine;
 ghost use Rattle.machine.specs.Events.{held_by, holds};
 ghost use Rattle.record.specs.Lens.{get_moves, get_point};
 ghost use Rattle.record.specs.Valid.{Usable};
 ghost use Rattle.sending.specs.Sends.{sequence_within};
 ghost use Rattle.actions.specs.Done.{done_of};
-ghost use Rattle.events.specs.Event.{is_who};
+ghost use Rattle.events.specs.Event.{is_who, event_from};
 ghost use Rattle.events.specs.Apart.{packet_for, point_for, taken_for, action_for, settled_by};
 
 use actions::Action;
+use answers::Refusal;
 use elements::InFlight;
 use in_flight::Outbox;
 use joining::Request;
@@ -32,7 +34,8 @@ pub enum Kind {
     Who,
 }
 
-// An event but for a join's context. `at` is the AP, or the packet for deliver, repeat and lose. What an event has no use for is ignored.
+// An event but for a join's context. `at` is the AP, or the packet for deliver, repeat and lose. What an event has no use for is ignored. Stays a
+// struct with a kind: a script's line and the tables below ask for the kind and the number alone, and an enum would bind and drop the rest there.
 #[derive(Clone, Copy, Debug, PartialEq, Eq)]
 pub struct Event {
     pub kind: Kind,
@@ -40,6 +43,69 @@ pub struct Event {
     pub station: [u8; 6],
     pub sequence: u16,
     pub old: Option<u16>,
+}
+
+impl Event {
+    // An event of this kind, with a number and a station.
+    fn plain(kind: Kind, at: u16, station: [u8; 6]) -> Event
+        ensures { result ≡ record { kind = kind; at = at; station = station; sequence = 0; old = None } }
+    {
+        Event {
+            kind,
+            at,
+            station,
+            sequence: 0,
+            old: None,
+        }
+    }
+
+    pub fn join(at: u16, station: [u8; 6], sequence: u16, old: Option<u16>) -> Event
+        ensures { (c : List ℕ) → event_from result c ≡ machine.join at station sequence old c }
+    {
+        Event {
+            kind: Kind::Join,
+            at,
+            station,
+            sequence,
+            old,
+        }
+    }
+
+    pub fn leave(at: u16, station: [u8; 6]) -> Event
+        ensures { (c : List ℕ) → event_from result c ≡ machine.leave at station }
+    {
+        Event::plain(Kind::Leave, at, station)
+    }
+
+    pub fn deliver(packet: u16) -> Event
+        ensures { (c : List ℕ) → event_from result c ≡ machine.deliver packet }
+    {
+        Event::plain(Kind::Deliver, packet, [0; 6])
+    }
+
+    pub fn repeat(packet: u16) -> Event
+        ensures { (c : List ℕ) → event_from result c ≡ machine.repeat packet }
+    {
+        Event::plain(Kind::Repeat, packet, [0; 6])
+    }
+
+    pub fn lose(packet: u16) -> Event
+        ensures { (c : List ℕ) → event_from result c ≡ machine.lose packet }
+    {
+        Event::plain(Kind::Lose, packet, [0; 6])
+    }
+
+    pub fn tick(at: u16) -> Event
+        ensures { (c : List ℕ) → event_from result c ≡ machine.tick at }
+    {
+        Event::plain(Kind::Tick, at, [0; 6])
+    }
+
+    pub fn who(station: [u8; 6]) -> Event
+        ensures { (c : List ℕ) → event_from result c ≡ machine.who station }
+    {
+        Event::plain(Kind::Who, 0, station)
+    }
 }
 
 // The packet that the event is about, of `count` in flight; 0 where it is about none.
@@ -70,7 +136,7 @@ pub fn takes(kind: Kind, at: u16, count: usize) -> bool
     matches!(kind, Kind::Deliver | Kind::Lose) && (at as usize) < count
 }
 
-// Whether the event is a who, at which no AP acts.
+// Whether the event is a who, at which no AP acts. Stays a function: contracts name it.
 pub fn is_who(kind: Kind) -> bool
     ensures { result ≡ is_who kind }
 {
@@ -85,11 +151,11 @@ pub fn action(
     count: usize,
     a: AccessPoint,
     p: InFlight,
-) -> Action
+) -> Result<Action, Refusal>
     requires usable { Usable a }
     requires moves_value { (every sequence_within (get_moves a.moves) ≡ true) × (setup.ap_count ≤ 8) }
     requires len_bound { e.at < count → (p.len ≤ 82) × (readable (octets_in p) ≡ true) }
-    ensures { done_of result ≡ action_for e.kind e.at e.station e.sequence e.old context.now setup.ap_count setup.timeout setup.resend_limit count a p }
+    ensures { done_of a result ≡ action_for e.kind e.at e.station e.sequence e.old context.now setup.ap_count setup.timeout setup.resend_limit count a p }
 {
     let Event {
         kind,
@@ -111,42 +177,40 @@ pub fn action(
         Kind::Deliver | Kind::Repeat => actions::receive(a, p, at, count),
         Kind::Lose => actions::lose(a, at, count),
         Kind::Tick => actions::tick(a, at, setup.ap_count, setup.timeout),
-        Kind::Who => actions::unchanged(a, Ok(())),
+        Kind::Who => Ok(actions::quietly(a)),
     }
 }
 
-// The packets in flight after it: packet k is taken out or not, and then what was sent is put in flight.
-pub fn settled(t: InFlights, taken: bool, k: usize, sent: Outbox) -> InFlights
-    requires { (t.count ≤ 64) × (sent.count ≤ 8) × (taken ≡ true → k < t.count) }
-    ensures { result ≡ settled_by taken k sent t }
+// Changes the packets in flight: packet k is taken out or not, and then what was sent is put in flight. `taken` stays a bool
+// beside k: a repeated packet has a place too, and is not taken out.
+pub fn settle(t: &mut InFlights, taken: bool, k: usize, sent: &Outbox)
+    requires { (t.old.count ≤ 64) × (length t.old.items ≡ 64) × (sent.now.count ≤ 8) × (taken ≡ true → k < t.old.count) }
+    ensures { t.new ≡ settled_by taken k sent.now t.old }
 {
     if taken {
-        let rest = in_flight::remove(t, k);
-        return in_flight::post(rest, sent);
+        t.remove(k);
     }
-    in_flight::post(t, sent)
+    in_flight::post(t, sent);
 }
 
 // HELD from an AP on: `held` is that of the APs after it, whose bits move up, and its own is the lowest.
-pub fn held_from(a: AccessPoint, station: [u8; 6], held: u8) -> u8
-    requires usable { Usable a }
+pub fn held_from(a: &AccessPoint, station: [u8; 6], held: u8) -> u8
+    requires usable { Usable a.now }
     requires held_bound { held < 128 }
-    ensures { result ≡ cond (holds station (get_point a)) 1 0 + 2 * held }
+    ensures { result ≡ cond (holds station (get_point a.now)) 1 0 + 2 * held }
 {
-    let t = a.associations;
-    held * 2 + u8::from(associations::find(t, station) < t.count)
+    let t = &a.associations;
+    held * 2 + u8::from(associations::find(t, station) < t.used().len())
 }
 
-// HELD: bit i is set if AP i has a row of the station.
-pub fn holders(points: [AccessPoint; 8], ap_count: u8, station: [u8; 6]) -> u8
-    requires { (ap_count ≤ 8) × All Usable (take ap_count points) }
-    ensures { result ≡ held_by station (map get_point (take ap_count points)) }
+// HELD: bit i is set if AP i has a row of the station. Stays a loop over places: with `iter().rev()` its proof did not close.
+pub fn holders(points: &[AccessPoint], station: [u8; 6]) -> u8
+    requires { (length points.now ≤ 8) × All Usable points.now }
+    ensures { result ≡ held_by station (map get_point points.now) }
 {
     let mut held: u8 = 0;
-    let mut i = ap_count as usize;
-    while 0 < i {
-        i -= 1;
-        held = held_from(points[i], station, held);
+    for i in (0..points.len()).rev() {
+        held = held_from(&points[i], station, held);
     }
     held
 }

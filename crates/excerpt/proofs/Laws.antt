@@ -6,12 +6,13 @@ use mathlib.Core.List.{List}
 use native.Mathlib.Omega.{arith}
 use lib.ListN.{length, get_or}
 use Rattle.lists.specs.Search.{index_by}
+use Rattle.lists.proofs.Search.{index_bound}
 use Rattle.record.specs.declared.AccessPoint.{AccessPoint}
-use Rattle.record.specs.Slots.{no_association}
+use Rattle.elements.specs.Blanks.{no_association}
 use Rattle.record.specs.Lens.{get_associations}
-use Rattle.record.proofs.LensLaws.{Fits, associations_length}
+use lib.Seq.{length-take-le}
+use Rattle.record.proofs.LensLaws.{Fits}
 use Rattle.associations.specs.Rows.{is_of}
-use Rattle.associations.proofs.Laws.{index_bound}
 use Rattle.excerpt.specs.declared.Edit.{Edit}
 use Rattle.excerpt.specs.declared.Edit.TheVariants.{Place}
 use Rattle.excerpt.specs.declared.Excerpt.{Excerpt}
@@ -26,7 +27,7 @@ module _ (s : List ℕ) (a : AccessPoint) (x : Excerpt) (w : Seen s a x) where
   at_is = ap (λ (y : Excerpt). y.at) w.same
 
   pub count_is : x.count ≡ length (get_associations a.associations)
-  count_is = ap (λ (y : Excerpt). y.count) w.same ∙ sym (associations_length a.associations w.rows)
+  count_is = ap (λ (y : Excerpt). y.count) w.same ∙ sym (length-take-le a.associations.count a.associations.items w.rows)
 
   pub row_is : x.row ≡ get_or (get_associations a.associations) x.at no_association
   row_is = ap (λ (y : Excerpt). y.row) w.same ∙ ap (λ (j : ℕ). get_or (get_associations a.associations) j no_association) (sym at_is)

@@ -6,7 +6,7 @@ use Rattle.elements.specs.declared.Association.{Association}
 use Rattle.machine.specs.Stations.{Station}
 use Rattle.record.specs.declared.Associations.{Associations}
 use Rattle.record.specs.declared.AccessPoint.{AccessPoint}
-use Rattle.record.specs.Slots.{no_association}
+use Rattle.elements.specs.Blanks.{no_association}
 use Rattle.record.specs.Lens.{get_associations, put_associations}
 use Rattle.record.specs.Valid.{Usable}
 use Rattle.associations.specs.Rows.{is_of}

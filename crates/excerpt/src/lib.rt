@@ -2,30 +2,31 @@
 // rules are handed this and hand it back, and not the whole table; then it is put back into the record, in one place.
 #![tactic(auto)]
 
-ghost use Rattle.std.specs.Prelude.{◌≡◌, ◌≤◌, ◌<◌, get_or};
-ghost use Rattle.record.specs.Slots.{no_association};
+ghost use Rattle.std.specs.Prelude.{◌≡◌, ◌≤◌, get_or};
+ghost use Rattle.elements.specs.Blanks.{no_association};
 ghost use Rattle.record.specs.Lens.{get_associations};
 ghost use Rattle.excerpt.specs.Excerpts.{excerpt_of, with_edit, edited, put_back, Allowed};
 
 use elements::Association;
 use record::{AccessPoint, Associations, Moves};
+use slots::Blank;
 
 // What happens to the table: nothing, the row at a place becomes another one (a new one last), or it is removed.
-#[derive(Clone, Copy)]
+#[derive(Clone, Copy, Debug, PartialEq, Eq)]
 pub enum Edit {
     Keep,
     Place,
     Remove,
 }
 
-#[derive(Clone, Copy)]
+#[derive(Clone, Copy, Debug, PartialEq, Eq)]
 pub struct Excerpt {
     pub edit: Edit,
-    // The place of the station's row, or the number of rows where it has none.
+    // The place of the station's row, or the number of rows where it has none. Stays a number, and no Option: a new row goes to that place.
     pub at: usize,
-    // The number of rows.
+    // The number of rows. Stays a number: the rows are not here.
     pub count: usize,
-    // The row at that place; a blank one where there is none.
+    // The row at that place; a blank one where there is none. Stays beside the edit and not in it: it is read also where nothing is placed.
     pub row: Association,
     pub moves: Moves,
     pub next_identifier: u16,
@@ -36,30 +37,29 @@ pub struct Excerpt {
 }
 
 // The row at place i, or a blank one where i is the number of rows.
-fn row_at(t: Associations, i: usize) -> Association
-    requires { t.count ≤ 16 }
-    ensures { result ≡ get_or (get_associations t) i no_association }
+fn row_at(t: &Associations, i: usize) -> Association
+    requires { t.now.count ≤ 16 }
+    ensures { result ≡ get_or (get_associations t.now) i no_association }
 {
-    if i < t.count {
-        return t.items[i];
+    match t.used().get(i) {
+        Some(row) => *row,
+        None => Association::blank(),
     }
-    associations::blank()
 }
 
 // The excerpt of a record for one station: nothing is to be changed yet.
-pub fn of(a: AccessPoint, station: [u8; 6]) -> Excerpt
-    requires { a.associations.count ≤ 16 }
-    ensures { result ≡ excerpt_of station a }
+pub fn of(a: &AccessPoint, station: [u8; 6]) -> Excerpt
+    requires { a.now.associations.count ≤ 16 }
+    ensures { result ≡ excerpt_of station a.now }
 {
-    let t = a.associations;
+    let t = &a.associations;
     let at = associations::find(t, station);
-    let moves = a.moves;
     Excerpt {
         edit: Edit::Keep,
         at,
         count: t.count,
         row: row_at(t, at),
-        moves,
+        moves: a.moves,
         next_identifier: a.next_identifier,
         opened: a.opened,
         resent: a.resent,
@@ -69,48 +69,34 @@ pub fn of(a: AccessPoint, station: [u8; 6]) -> Excerpt
 }
 
 // The excerpt with this edit, and the row for it.
-pub fn with_edit(x: Excerpt, edit: Edit, row: Association) -> Excerpt
-    ensures { result ≡ with_edit edit row x }
+pub fn with_edit(x: &Excerpt, edit: Edit, row: Association) -> Excerpt
+    ensures { result ≡ with_edit edit row x.now }
 {
-    let moves = x.moves;
-    Excerpt {
-        edit,
-        at: x.at,
-        count: x.count,
-        row,
-        moves,
-        next_identifier: x.next_identifier,
-        opened: x.opened,
-        resent: x.resent,
-        answered: x.answered,
-        given_up: x.given_up,
-    }
+    Excerpt { edit, row, ..*x }
 }
 
-// The table after the edit.
-fn table(t: Associations, edit: Edit, at: usize, row: Association) -> Associations
-    requires { (t.count ≤ 16) × Allowed edit at t.count }
-    ensures { result ≡ edited edit at row t }
+// Edits the table.
+fn change(t: &mut Associations, edit: Edit, at: usize, row: Association)
+    requires { (t.old.count ≤ 16) × Allowed edit at t.old.count }
+    ensures { t.new ≡ edited edit at row t.old }
 {
     match edit {
-        Edit::Keep => t,
-        Edit::Place => associations::place(t, at, row),
-        Edit::Remove => associations::remove(t, at),
+        Edit::Keep => {}
+        Edit::Place => t.place(at, row),
+        Edit::Remove => t.remove(at),
     }
 }
 
 // The record with the excerpt put back.
-pub fn put_back(a: AccessPoint, x: Excerpt) -> AccessPoint
-    requires { (a.associations.count ≤ 16) × Allowed x.edit x.at a.associations.count }
-    ensures { result ≡ put_back a x }
+pub fn put_back(a: &AccessPoint, x: &Excerpt) -> AccessPoint
+    requires { (a.now.associations.count ≤ 16) × Allowed x.now.edit x.now.at a.now.associations.count }
+    ensures { result ≡ put_back a.now x.now }
 {
-    let t = a.associations;
-    let edit = x.edit;
-    let row = x.row;
-    let moves = x.moves;
+    let mut associations = a.associations;
+    change(&mut associations, x.edit, x.at, x.row);
     AccessPoint {
-        associations: table(t, edit, x.at, row),
-        moves,
+        associations,
+        moves: x.moves,
         next_identifier: x.next_identifier,
         opened: x.opened,
         resent: x.resent,

@@ -8,7 +8,6 @@ use native.Mathlib.Omega.{arith}
 use Rattle.lists.specs.Places.{All}
 use Rattle.machine.specs.Events.{Event, Octet, StationIn, Formed}
 use Rattle.machine.specs.Valid.{valid_setup}
-use Rattle.answers.specs.Numbers.{number_of}
 use Rattle.network.specs.declared.Network.{Network}
 use Rattle.network.specs.Lens.{new_network}
 use Rattle.network.specs.Events as floor
@@ -22,35 +21,36 @@ use Rattle.events.specs.declared.Kind.TheVariants.{Join, Leave, Deliver, Repeat,
 use Rattle.events.specs.declared.Event as call
 use Rattle.events.specs.Event.{event_as, event_from}
 use Rattle.floor_link.specs.declared.Reply.{Reply}
-use Rattle.floor_link.specs.declared.SetUp.{SetUp}
-use Rattle.floor_link.specs.Answered.{Started, set_up_of, set_up_done, line_from}
+use Rattle.std.specs.Prelude.{Result}
+use Rattle.answers.specs.declared.Refusal.{Refusal}
+use Rattle.floor_link.specs.Answered.{Started, set_up_of, set_up_done, told_line, network_after}
 use Rattle.floor_link.specs.Calls.{Calls, last_of, lines_from, answered_from, Delivered}
 
 -- the replies are those of the record's own list of events
 
-last_is : (w : Network) (es : List Event) (rs : List Reply) → Calls w es rs → last_of w rs ≡ run_of w es
+last_is : (w : Network) (es : List Event) (rs : List (Result Reply Refusal)) → Calls w es rs → last_of w rs ≡ run_of w es
 unfolding last_of run_of
 last_is w [] [] h = refl
 last_is w [] (r ∷ rs) h = absurd h
 last_is w (e ∷ es) [] h = absurd h
-last_is w (e ∷ es) (r ∷ rs) h = last_is r.network es rs h.1 ∙ ap (λ (x : floor.Reply). run_of x.network es) h.0
+last_is w (e ∷ es) (r ∷ rs) h = last_is (network_after w r) es rs h.1 ∙ ap (λ (x : floor.Reply). run_of x.network es) h.0
 
-lines_are : (w : Network) (es : List Event) (rs : List Reply) → Calls w es rs → lines_from rs ≡ lines_of w es
+lines_are : (w : Network) (es : List Event) (rs : List (Result Reply Refusal)) → Calls w es rs → lines_from rs ≡ lines_of w es
 unfolding lines_from lines_of
 lines_are w [] [] h = refl
 lines_are w [] (r ∷ rs) h = absurd h
 lines_are w (e ∷ es) [] h = absurd h
 lines_are w (e ∷ es) (r ∷ rs) h =
-    ap (◌∷◌ (line_from r.line)) (lines_are r.network es rs h.1)
+    ap (◌∷◌ (told_line r)) (lines_are (network_after w r) es rs h.1)
     ∙ ap (λ (x : floor.Reply). x.line ∷ lines_of x.network es) h.0
 
-answers_are : (w : Network) (es : List Event) (rs : List Reply) → Calls w es rs → answered_from es rs ≡ answered_of w es
+answers_are : (w : Network) (es : List Event) (rs : List (Result Reply Refusal)) → Calls w es rs → answered_from es rs ≡ answered_of w es
 unfolding answered_from answered_of
 answers_are w [] [] h = refl
 answers_are w [] (r ∷ rs) h = absurd h
 answers_are w (e ∷ es) [] h = absurd h
 answers_are w (e ∷ es) (r ∷ rs) h =
-    ap (◌∷◌ (e, (line_from r.line).answer)) (answers_are r.network es rs h.1)
+    ap (◌∷◌ (e, (told_line r).answer)) (answers_are (network_after w r) es rs h.1)
     ∙ ap (λ (x : floor.Reply). (e, x.line.answer) ∷ answered_of x.network es) h.0
 
 -- what set-up accepts is a new network
@@ -68,11 +68,11 @@ unfolding set_up_done
 new_setup n t r v = rw v
 
 -- Demand 3
-pub delivered : (n t r : ℕ) (s : SetUp) → set_up_of s ≡ set_up_done n t r → number_of s.answer ≡ 0
-    → (es : List Event) (rs : List Reply) → All Formed es → Calls s.network es rs → Delivered n t r es rs
+pub delivered : (n t r : ℕ) (s : Result Network Refusal) → set_up_of s ≡ set_up_done n t r → (set_up_of s).answer ≡ 0
+    → (es : List Event) (rs : List (Result Reply Refusal)) → All Formed es → Calls (set_up_of s).network es rs → Delivered n t r es rs
 delivered n t r s h a es rs z c =
     let v : valid_setup n t r ≡ true = accepted_setup n t r (sym (ap (λ (x : Started). x.answer) h) ∙ a) in
-    let w : s.network ≡ new_network n t r = ap (λ (x : Started). x.network) h ∙ new_setup n t r v in
+    let w : (set_up_of s).network ≡ new_network n t r = ap (λ (x : Started). x.network) h ∙ new_setup n t r v in
     let k : Calls (new_network n t r) es rs = subst (λ (f : Network). Calls f es rs) w c in
     let d : Demand n t r es = demand n t r v es z in
     let l : last_of (new_network n t r) rs ≡ run_of (new_network n t r) es = last_is (new_network n t r) es rs k in

@@ -1,5 +1,6 @@
 -- Demand 3 of the code: what is proved of every sequence of calls from a network just set up.
-use Rattle.std.specs.Prelude.{ℕ, ◌≡◌, List, [], ◌∷◌, map, reverse, length}
+use Rattle.std.specs.Prelude.{ℕ, ◌≡◌, List, [], ◌∷◌, map, reverse, length, Result}
+use Rattle.answers.specs.declared.Refusal.{Refusal}
 use Rattle.machine.specs.Events.{Event, Formed, step}
 use Rattle.machine.specs.History.{run, begin}
 use Rattle.machine.specs.Joins.{Answered, answers_of}
@@ -10,34 +11,34 @@ use Rattle.network.specs.Events.{Line, line_of, event_of}
 use Rattle.network.specs.Clean.{Clean}
 use Rattle.network.specs.Demand.{entry_line}
 use Rattle.floor_link.specs.declared.Reply.{Reply}
-use Rattle.floor_link.specs.Answered.{line_from, reply_from}
+use Rattle.floor_link.specs.Answered.{told_line, network_after, reply_from}
 
 -- The replies to a list of calls, one after the other: each call is given the record that the one before left, "refused or not", and its
 -- reply is what the entry point promises of that record and event
-abbrev pub Calls : Network → List Event → List Reply → Type 0
+abbrev pub Calls : Network → List Event → List (Result Reply Refusal) → Type 0
 Calls w [] [] = Unit {0}
 Calls w [] (r ∷ rs) = ⊥
 Calls w (e ∷ es) [] = ⊥
-Calls w (e ∷ es) (r ∷ rs) = (reply_from r ≡ event_of w e) × Calls r.network es rs
+Calls w (e ∷ es) (r ∷ rs) = (reply_from w r ≡ event_of w e) × Calls (network_after w r) es rs
 
 -- the record that the last call left
-unfoldable pub last_of : Network → List Reply → Network
+unfoldable pub last_of : Network → List (Result Reply Refusal) → Network
 last_of w [] = w
-last_of w (r ∷ rs) = last_of r.network rs
+last_of w (r ∷ rs) = last_of (network_after w r) rs
 
 -- what the calls answered, in document 01's numbers
-unfoldable pub lines_from : List Reply → List Line
+unfoldable pub lines_from : List (Result Reply Refusal) → List Line
 lines_from [] = []
-lines_from (r ∷ rs) = line_from r.line ∷ lines_from rs
+lines_from (r ∷ rs) = told_line r ∷ lines_from rs
 
 -- each event and its ANSWER
-unfoldable pub answered_from : List Event → List Reply → List Answered
+unfoldable pub answered_from : List Event → List (Result Reply Refusal) → List Answered
 answered_from [] rs = []
 answered_from (e ∷ es) [] = []
-answered_from (e ∷ es) (r ∷ rs) = (e, (line_from r.line).answer) ∷ answered_from es rs
+answered_from (e ∷ es) (r ∷ rs) = (e, (told_line r).answer) ∷ answered_from es rs
 
 -- n APs, T = t, R = r, the list of events and the replies to the calls
-pub record Delivered (n t r : ℕ) (es : List Event) (rs : List Reply) : Type 0 where
+pub record Delivered (n t r : ℕ) (es : List Event) (rs : List (Result Reply Refusal)) : Type 0 where
   -- demand 3, of the machine's run of the list
   pub claim : Claim r (run (begin n t r) es)
   -- ANSWER, SENT, GIVENUP, HELD and TABLES of each call are those of that run, whose history has the latest first
@@ -48,5 +49,5 @@ pub record Delivered (n t r : ℕ) (es : List Event) (rs : List Reply) : Type 0 
   pub network : last_of (new_network n t r) rs ≡ put (new_network n t r) (run (begin n t r) es).network
   pub clean : Clean (last_of (new_network n t r) rs)
   -- and so for any next call, as a who that tells where a station stands
-  pub next : (e : Event) → Formed e → (x : Reply) → reply_from x ≡ event_of (last_of (new_network n t r) rs) e
-      → line_from x.line ≡ line_of (step (run (begin n t r) es).network (length (run (begin n t r) es).log) e)
+  pub next : (e : Event) → Formed e → (x : Result Reply Refusal) → reply_from (last_of (new_network n t r) rs) x ≡ event_of (last_of (new_network n t r) rs) e
+      → told_line x ≡ line_of (step (run (begin n t r) es).network (length (run (begin n t r) es).log) e)

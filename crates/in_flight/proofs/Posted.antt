@@ -9,18 +9,22 @@ use native.Mathlib.Nat.{le_refl}
 use native.Mathlib.Numerals.{add-one}
 use borrow.Author.Tests.{ltb-true, lt-ltb, le-ltb}
 use lib.Dec.{ltb}
-use lib.ListN.{length, take, get_or, set, replicate, length-append}
-use lib.Seq.{take-suc, length-take-le, take-take}
+use lib.ListN.{length, take, get_or, length-append}
+use lib.Seq.{take-suc}
 use Rattle.lists.proofs.Bools.{by_cond}
-use Rattle.lists.proofs.Search.{get_or_used}
 use Rattle.elements.specs.declared.InFlight.{InFlight}
 use Rattle.machine.specs.Packets.{Outgoing, carried}
 use Rattle.machine.specs.Network.{Network, set_in_flight, send, send_all}
-use Rattle.record.proofs.Over.{take_over}
 use Rattle.network.specs.declared.InFlights.{InFlights}
-use Rattle.network.specs.Lens.{no_in_flight, put_in_flight}
-use Rattle.in_flight.specs.Post.{get_outbox, outbox_of, posted}
-use Rattle.in_flight.proofs.Slots.{past, put_more}
+use Rattle.slots.proofs.Over.{take_over}
+use Rattle.slots.proofs.Laws.{put_more}
+use Rattle.elements.specs.Blanks.{no_in_flight}
+use Rattle.network.specs.Lens.{get_in_flight, put_in_flight}
+use Rattle.in_flight.specs.Post.{no_outbox, get_outbox, outbox_of, posted}
+
+-- what a read past the end of the array gives, in the logic
+abbrev pub past : InFlight
+past = record { from = 0; to = 0; len = 0; octets = [] }
 
 -- one packet sent where ws are in flight
 abbrev one : InFlight → List InFlight → List InFlight
@@ -70,8 +74,8 @@ posted_more (p ∷ ps) ws = omega (arith, one_more p ws, posted_more ps (one p w
 -- What is to be sent
 
 pub outbox_got : (ps : List InFlight) → get_outbox (outbox_of ps) ≡ ps
-unfolding get_outbox outbox_of
-outbox_got ps = take_over no_in_flight 0 ps (replicate 8 no_in_flight)
+unfolding outbox_of
+outbox_got ps = take_over no_in_flight 0 ps no_outbox.items
 
 -- One packet more
 
@@ -80,33 +84,26 @@ unfolding posted
 posted_last [] p ws = refl
 posted_last (q ∷ ps) p ws = posted_last ps p (one q ws)
 
--- A loop that has put the first i of n packets in flight, in the place of those of a record
+-- A loop that has put the first i of the packets ps in flight, in the place of those of a record
 
-module _ (t o : InFlights) (n : ℕ) (items ws : List InFlight) (i : ℕ) (l : n ≤ length items) (h : i < n) (e : o ≡ put_in_flight t (posted (take i (take n items)) ws)) where
-  next : posted (take (i + 1) (take n items)) ws ≡ one (get_or items i past) (posted (take i (take n items)) ws)
-  next =
-      let q : i < length (take n items) = omega (arith, length-take-le n items l) in
-      rw (add-one i, take-suc (take n items) i past q, get_or_used n items i past past h l) (posted_last (take i (take n items)) (get_or items i past) ws)
+module _ (t o : InFlights) (ps ws : List InFlight) (i : ℕ) (l : i < length ps) (e : o ≡ put_in_flight t (posted (take i ps) ws)) where
+  next : posted (take (i + 1) ps) ws ≡ one (get_or ps i past) (posted (take i ps) ws)
+  next = rw (add-one i, take-suc ps i past l) (posted_last (take i ps) (get_or ps i past) ws)
 
-  count : o.count ≡ length (posted (take i (take n items)) ws)
-  unfolding put_in_flight
+  count : o.count ≡ length (posted (take i ps) ws)
   count = ap (λ (w : InFlights). w.count) e
 
   -- it is put in flight where fewer than 64 are
-  pub put_in : t.count ≤ length t.items → length t.items ≡ 64 → o.count < 64
-      → record { items = set o.items o.count (get_or items i past); count = o.count + 1 } ≡ put_in_flight t (posted (take (i + 1) (take n items)) ws)
-  put_in j k a =
-      let z : length (posted (take i (take n items)) ws) < 64 = omega (arith, count) in
-      put_more t o (posted (take i (take n items)) ws) (get_or items i past) e j (omega arith)
+  pub put_in : o.count < 64
+      → put_in_flight o (get_in_flight o ++ (get_or ps i past ∷ [])) ≡ put_in_flight t (posted (take (i + 1) ps) ws)
+  put_in a =
+      let z : length (posted (take i ps) ws) < 64 = omega (arith, count) in
+      ap (λ (w : InFlights). put_in_flight w (get_in_flight w ++ (get_or ps i past ∷ []))) e
+      ∙ put_more (λ (xs : List InFlight) (n : ℕ). record { items = xs; count = n }) no_in_flight t.count t.items (posted (take i ps) ws) (get_or ps i past)
       ∙ ap (put_in_flight t) (sym (next ∙ rw (lt-ltb _ _ z)))
 
   -- and lost else
-  pub put_out : 64 ≤ o.count → o ≡ put_in_flight t (posted (take (i + 1) (take n items)) ws)
+  pub put_out : 64 ≤ o.count → o ≡ put_in_flight t (posted (take (i + 1) ps) ws)
   put_out a =
-      let z : 64 ≤ length (posted (take i (take n items)) ws) = omega (arith, count) in
+      let z : 64 ≤ length (posted (take i ps) ws) = omega (arith, count) in
       e ∙ ap (put_in_flight t) (sym (next ∙ rw (le-ltb _ _ z)))
-
--- at the end all are put in flight
-pub put_all : (t : InFlights) (n : ℕ) (items ws : List InFlight) (i : ℕ) → i ≡ n
-    → put_in_flight t (posted (take i (take n items)) ws) ≡ put_in_flight t (posted (take n items) ws)
-put_all t n items ws i e = rw (e, take-take n n items (le_refl n))

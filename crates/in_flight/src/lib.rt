@@ -1,117 +1,84 @@
 // The packets in flight between access points. Document 01: the air, "up to 64 packets in order of sending".
 #![tactic(auto)]
 
-ghost use Rattle.std.specs.Prelude.{◌≡◌, ◌&&◌, ◌≤◌, ◌<◌, leb};
-ghost use Rattle.lists.specs.Places.{without, every};
+ghost use Rattle.std.specs.Prelude.{◌≡◌, ◌&&◌, ◌≤◌, ◌<◌, ◌++◌, [], ◌∷◌, leb, length};
+ghost use Rattle.std.specs.List.{list_all};
+ghost use Rattle.lists.specs.Places.{every};
 ghost use Rattle.machine.specs.Valid.{valid_in_flight};
-ghost use Rattle.network.specs.Lens.{no_in_flight, get_in_flight, put_in_flight};
-ghost use Rattle.in_flight.specs.Post.{no_in_flights, get_outbox, posted};
+ghost use Rattle.network.specs.Lens.{get_in_flight, put_in_flight};
+ghost use Rattle.in_flight.specs.Post.{no_outbox, get_outbox, put_outbox, posted};
 
 use elements::InFlight;
 use network::InFlights;
+use slots::Blank;
 
 // The packets that one event sends, in order: an announcement goes to seven APs at most, and a tick sends eight notices again at most.
+// Stays a struct with a count, as the record's lists are.
 #[derive(Clone, Copy)]
 pub struct Outbox {
     pub items: [InFlight; 8],
     pub count: usize,
 }
 
-// What a slot holds that no packet uses.
-pub fn blank() -> InFlight
-    ensures { result ≡ no_in_flight }
-{
-    InFlight {
-        from: 0,
-        to: 0,
-        len: 0,
-        octets: [0u8; 82],
+impl Outbox {
+    // Nothing sent: every slot is blank.
+    pub fn none() -> Outbox
+        ensures { result ≡ no_outbox }
+    {
+        Outbox {
+            items: [InFlight::blank(); 8],
+            count: 0,
+        }
     }
-}
 
-// No packets: 64 blank slots.
-pub fn none() -> InFlights
-    ensures { result ≡ no_in_flights }
-{
-    let b = blank();
-    InFlights {
-        items: [b; 64],
-        count: 0,
+    // The packets sent, in order.
+    pub fn used(&self) -> &[InFlight]
+        requires { self.now.count ≤ 8 }
+        ensures elements { result.now ≡ get_outbox self.now }
+        ensures len { length result.now ≡ self.now.count }
+    {
+        &self.items[..self.count]
     }
-}
 
-// The packets without packet k: the later ones move up, and the freed slot is blank.
-pub fn remove(t: InFlights, k: usize) -> InFlights
-    requires { (t.count ≤ 64) × (k < t.count) }
-    ensures { result ≡ put_in_flight t (without k (get_in_flight t)) }
-{
-    let mut out = t;
-    let last = t.count - 1;
-    let mut i = k;
-    while i < last {
-        let p = out.items[i + 1];
-        out.items[i] = p;
-        i += 1;
+    // One packet more, sent last.
+    pub fn push(&mut self, p: InFlight)
+        requires { self.old.count < 8 }
+        ensures { self.new ≡ put_outbox self.old (get_outbox self.old ++ (p ∷ [])) }
+    {
+        slots::push(&mut self.items, &mut self.count, p);
     }
-    let b = blank();
-    out.items[last] = b;
-    out.count = last;
-    out
 }
 
 // The packets of `sent` put in flight, in order. One that finds 64 in flight is lost.
-pub fn post(t: InFlights, sent: Outbox) -> InFlights
-    requires { (t.count ≤ 64) × (sent.count ≤ 8) }
-    ensures { result ≡ put_in_flight t (posted (get_outbox sent) (get_in_flight t)) }
+pub fn post(t: &mut InFlights, sent: &Outbox)
+    requires { (t.old.count ≤ 64) × (length t.old.items ≡ 64) × (sent.now.count ≤ 8) }
+    ensures { t.new ≡ put_in_flight t.old (posted (get_outbox sent.now) (get_in_flight t.old)) }
 {
-    let n = sent.count;
-    let mut out = t;
-    let mut i: usize = 0;
-    while i < n {
-        let k = out.count;
-        if k < 64 {
-            let p = sent.items[i];
-            out.items[k] = p;
-            out.count = k + 1;
+    for p in sent.used() {
+        if t.count < 64 {
+            t.push(*p);
         }
-        i += 1;
     }
-    out
 }
 
 // Whether sender, receiver and size of a packet are within document 01's limits on a floor of ap_count APs, and the reader accepts it.
-fn valid_packet(p: InFlight, ap_count: u8) -> bool
-    ensures { result ≡ valid_in_flight ap_count p }
+#[tactic(auto, unfolding(machine::specs::Valid::valid_in_flight, machine::specs::Packets::readable, machine::specs::Packets::octets_in))]
+fn valid_packet(p: &InFlight, ap_count: u8) -> bool
+    ensures { result ≡ valid_in_flight ap_count p.now }
 {
-    if ap_count <= p.from {
-        return false;
-    }
-    if ap_count <= p.to {
-        return false;
-    }
-    let n = p.len;
-    if 82 < n {
-        return false;
-    }
-    let octets = p.octets;
-    reader::accepted(&octets[..n])
+    p.from < ap_count && p.to < ap_count && p.len <= 82 && reader::accepted(&p.octets[..p.len])
+}
+
+// Whether every one of these packets is within document 01's limits.
+fn all_valid(packets: &[InFlight], ap_count: u8) -> bool
+    ensures { result ≡ list_all (valid_in_flight ap_count) packets.now }
+{
+    packets.iter().all(|p| valid_packet(p, ap_count))
 }
 
 // Whether 14 does not apply to the packets in flight: the used length and every packet.
-pub fn valid(t: InFlights, ap_count: u8) -> bool
-    ensures { result ≡ leb t.count 64 && every (valid_in_flight ap_count) (get_in_flight t) }
+pub fn valid(t: &InFlights, ap_count: u8) -> bool
+    ensures { result ≡ leb t.now.count 64 && every (valid_in_flight ap_count) (get_in_flight t.now) }
 {
-    let n = t.count;
-    if 64 < n {
-        return false;
-    }
-    let mut i: usize = 0;
-    while i < n {
-        let p = t.items[i];
-        if !valid_packet(p, ap_count) {
-            return false;
-        }
-        i += 1;
-    }
-    true
+    t.count <= 64 && all_valid(t.used(), ap_count)
 }

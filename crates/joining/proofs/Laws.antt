@@ -17,11 +17,9 @@ use Rattle.machine.specs.Associations.{Context, given, association, held_context
 use Rattle.machine.specs.Moves.{Open, counts_after, counted, new_move, notice_of}
 use Rattle.machine.specs.Moves as happenings
 use Rattle.machine.specs.AccessPoint.{with_associations, with_moves, use_identifier, quietly, another, this, nowhere, origin_of, needs_move, join_tests, joined, join_from}
-use Rattle.record.specs.declared.Moves.{Moves}
 use Rattle.record.specs.declared.AccessPoint.{AccessPoint}
 use Rattle.record.specs.Lens.{get_associations, put_associations, get_moves, put_moves, named, bare, get_point, put_point}
-use Rattle.record.proofs.LensLaws.{associations_length, moves_length, put_parts, moves_as_got}
-use Rattle.record.specs.Slots.{no_association}
+use Rattle.record.proofs.LensLaws.{put_parts, moves_as_got}
 use Rattle.associations.specs.Rows.{is_of}
 use Rattle.associations.proofs.Laws.{associate_at, context_at, station_at_lem, sequence_at}
 use Rattle.excerpt.specs.declared.Edit.TheVariants.{Place}
@@ -33,6 +31,9 @@ use Rattle.joining.specs.declared.Origin.TheVariants.{Another, This, Nowhere}
 use Rattle.joining.specs.declared.Notice.{Notice}
 use Rattle.joining.specs.declared.Notice.TheVariants.{Silent}
 use Rattle.joining.specs.Join.{sends_by, notice_from, origin_from, join_done, moves_tests, tests_at, moving_from}
+use Rattle.record.specs.declared.Moves.{Moves}
+use Rattle.elements.specs.Blanks.{no_association}
+use lib.Seq.{length-take-le}
 
 -- the tests, one after the other
 
@@ -167,8 +168,8 @@ pub tests_same : (s : List ℕ) (a : AccessPoint) (x : Excerpt) → Seen s a x �
 unfolding tests_at get_point
 tests_same s a x w n o =
     let rs = get_associations a.associations in
-    let m : length (map named (get_moves a.moves)) ≡ a.moves.count = length-map (get_moves a.moves) named ∙ moves_length a.moves w.moves in
-    rw (w.same, m, moving_is o, sequence_at s no_association rs, associations_length a.associations w.rows) (by_option (ltb (index_by (is_of s) rs) a.associations.count) _ n (leb 16 a.associations.count) (moves_tests a.moves.count (needs_move (origin_from o))))
+    let m : length (map named (get_moves a.moves)) ≡ a.moves.count = length-map (get_moves a.moves) named ∙ length-take-le a.moves.count a.moves.items w.moves in
+    rw (w.same, m, moving_is o, sequence_at s no_association rs, length-take-le a.associations.count a.associations.items w.rows) (by_option (ltb (index_by (is_of s) rs) a.associations.count) _ n (leb 16 a.associations.count) (moves_tests a.moves.count (needs_move (origin_from o))))
 
 -- a join refused, and a join done
 

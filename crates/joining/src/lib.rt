@@ -25,7 +25,7 @@ pub struct Request {
     pub old: Option<u16>,
 }
 
-// Where the old AP is: another AP of the floor, this AP, or none or not on the floor.
+// Where the old AP is: another AP of the floor, this AP, or none or not on the floor. Stays an enum: an Option would take two of the three as one.
 #[derive(Clone, Copy, Debug, PartialEq, Eq)]
 pub enum Origin {
     Another(u8),
@@ -67,7 +67,7 @@ fn needs_move(o: Origin) -> bool
     matches!(o, Origin::Another(_))
 }
 
-// 17, where a move is needed and 8 are open.
+// 17, where a move is needed and 8 are open. `moving` stays a bool: it is a fact of the join, and switches no step but this one.
 fn moves_answer(moves: usize, moving: bool) -> Answer
     ensures { number_of result ≡ first_of (moves_tests moves moving) }
 {
@@ -78,7 +78,7 @@ fn moves_answer(moves: usize, moving: bool) -> Answer
 }
 
 // The first of 15, 16 and 17 that applies, where the station's association is at place `at` of `count` with the number `held`, and `at` is
-// the count where there is none.
+// the count where there is none. Stay numbers: the rows are not here.
 #[tactic(auto, using(lists::proofs::Tables::tests), unfolding(crate::specs::Join::tests_at))]
 fn answer_at(
     at: usize,
@@ -107,8 +107,7 @@ fn kept_context(x: Excerpt, station: [u8; 6], sequence: u16) -> Association
     ensures { (a : AccessPoint) → Seen station a x → result ≡ association station sequence (held_context station (get_associations a.associations)) }
 {
     if x.at < x.count {
-        let row = x.row;
-        return associations::renumbered(row, sequence);
+        return associations::renumbered(&x.row, sequence);
     }
     associations::new_association(station, sequence, &[])
 }
@@ -129,8 +128,8 @@ fn from_another(x: Excerpt, station: [u8; 6], sequence: u16, old: u8, setup: Set
         ticks_left: setup.timeout,
         resends_left: setup.resend_limit,
     };
-    let mut y = excerpt::with_edit(x, Edit::Place, row);
-    y.moves = moves::push(x.moves, m);
+    let mut y = excerpt::with_edit(&x, Edit::Place, row);
+    y.moves.push(m);
     y.next_identifier = identifier.wrapping_add(1);
     y.opened = x.opened.wrapping_add(1);
     y
@@ -142,7 +141,7 @@ fn from_this(x: Excerpt, station: [u8; 6], sequence: u16) -> Excerpt
     ensures edit_value { (result.edit ≡ Place) × (result.at ≡ x.at) }
 {
     let row = kept_context(x, station, sequence);
-    excerpt::with_edit(x, Edit::Place, row)
+    excerpt::with_edit(&x, Edit::Place, row)
 }
 
 // A join from nowhere on the floor: the context given is taken, and the next identifier is used.
@@ -152,7 +151,7 @@ fn from_nowhere(x: Excerpt, station: [u8; 6], sequence: u16, context: &[u8]) -> 
     ensures edit_value { (result.edit ≡ Place) × (result.at ≡ x.at) }
 {
     let row = associations::new_association(station, sequence, context);
-    let mut y = excerpt::with_edit(x, Edit::Place, row);
+    let mut y = excerpt::with_edit(&x, Edit::Place, row);
     y.next_identifier = x.next_identifier.wrapping_add(1);
     y
 }

@@ -1,20 +1,21 @@
 // A network's calls as a caller that lends its record makes them: what is asked of it, by value, and what it answers, in numbers.
 #![tactic(auto)]
 
-ghost use Rattle.std.specs.Prelude.{◌≡◌, min, [], take};
-ghost use Rattle.std.specs.Prelude.{None};
+ghost use Rattle.std.specs.Prelude.{◌≡◌, [], take};
+ghost use Rattle.answers.specs.Numbers.{refusal_number};
 ghost use Rattle.machine.specs.Events as machine;
-ghost use Rattle.events.specs.Event.{event_as};
-ghost use Rattle.network.specs.Events.{event_of};
+ghost use Rattle.events.specs.Event.{event_from};
+ghost use Rattle.network.specs.Events.{refused, event_of};
 ghost use Rattle.floor_link.specs.Answered.{reply_from};
 ghost use Rattle.alone.specs.Told.{old_named};
 ghost use Rattle.lent.specs.Told.{told_of, set_up_over, asked_of};
 
-use events::{Event, Kind};
+use answers::Refusal;
+use events::Event;
 use floor_link::Reply;
 use network::Network;
 
-// ANSWER, SENT, GIVENUP, HELD and TABLES, each as document 01's number.
+// ANSWER, SENT, GIVENUP, HELD and TABLES, each as document 01's number. Stays numbers, since C is given it.
 #[repr(C)]
 #[derive(Clone, Copy)]
 pub struct Line {
@@ -32,35 +33,40 @@ pub struct Outcome {
     pub line: Line,
 }
 
-// What an event answers, in numbers.
-fn in_numbers(r: Reply) -> Outcome
-    ensures { told_of result ≡ reply_from r }
+// A refused call: the network as it came, and the refusal's number.
+#[tactic(auto, unfolding(network::specs::Events::refused))]
+fn refused(network: Network, refusal: Refusal) -> Outcome
+    ensures { told_of result ≡ refused (refusal_number refusal) network }
 {
-    let l = r.line;
-    let answer = l.answer;
-    let network = r.network;
     Outcome {
         network,
         line: Line {
-            answer: answers::number(answer),
-            sent: l.sent,
-            given_up: l.given_up,
-            held: l.held,
-            tables: l.tables,
+            answer: u8::from(refusal),
+            sent: 0,
+            given_up: 0,
+            held: 0,
+            tables: 0,
         },
     }
 }
 
-// A line with nothing but its answer.
-fn line_of(answer: u8) -> Line
-    ensures { result ≡ record { answer = answer; sent = 0; given_up = 0; held = 0; tables = 0 } }
+// What an event on the network answers, in numbers. Stays by hand: C is given numbers, and a refused call gives the network back.
+#[tactic(auto, unfolding(network::specs::Events::refused))]
+fn in_numbers(network: Network, reply: Result<Reply, Refusal>) -> Outcome
+    ensures { told_of result ≡ reply_from network reply }
 {
-    Line {
-        answer,
-        sent: 0,
-        given_up: 0,
-        held: 0,
-        tables: 0,
+    match reply {
+        Ok(Reply { line, network }) => Outcome {
+            network,
+            line: Line {
+                answer: 0,
+                sent: line.sent,
+                given_up: line.given_up,
+                held: line.held,
+                tables: line.tables,
+            },
+        },
+        Err(r) => refused(network, r),
     }
 }
 
@@ -68,22 +74,23 @@ fn line_of(answer: u8) -> Line
 pub fn set_up(network: Network, ap_count: u16, timeout: u16, resend_limit: u16) -> Outcome
     ensures { told_of result ≡ set_up_over network ap_count timeout resend_limit }
 {
-    if !access_point::valid_setup(ap_count, timeout, resend_limit) {
-        return Outcome {
-            network,
-            line: line_of(14),
-        };
-    }
-    let x = floor_link::set_up(ap_count, timeout, resend_limit);
-    let new = x.network;
-    Outcome {
-        network: new,
-        line: line_of(0),
+    match floor_link::set_up(ap_count, timeout, resend_limit) {
+        Ok(new) => Outcome {
+            network: new,
+            line: Line {
+                answer: 0,
+                sent: 0,
+                given_up: 0,
+                held: 0,
+                tables: 0,
+            },
+        },
+        Err(refusal) => refused(network, refusal),
     }
 }
 
 // What is asked: an event, with a join's context in the first `len` octets. A context of more than 64 octets is 9, whatever else it has, so
-// 65 of them are enough.
+// 65 of them are enough. The length stays beside the octets: the exports hand it on by value, and a slice would tie it to their caller's.
 #[derive(Clone, Copy)]
 pub struct Asked {
     pub event: Event,
@@ -91,30 +98,14 @@ pub struct Asked {
     pub context: [u8; 65],
 }
 
-// The number, or 65 where it is greater.
-fn at_most_65(n: usize) -> usize
-    ensures { result ≡ min n 65 }
-{
-    if 65 < n {
-        return 65;
-    }
-    n
-}
-
-// An event with no context. What it has no use for is 0.
-fn plainly(kind: Kind, at: u16, station: [u8; 6]) -> Asked
-    ensures { asked_of result ≡ event_as kind at station 0 None [] }
+// An event with no context.
+fn plainly(event: Event) -> Asked
+    ensures { asked_of result ≡ event_from event [] }
 {
     Asked {
-        event: Event {
-            kind,
-            at,
-            station,
-            sequence: 0,
-            old: None,
-        },
+        event,
         len: 0,
-        context: [0u8; 65],
+        context: [0; 65],
     }
 }
 
@@ -122,20 +113,12 @@ fn plainly(kind: Kind, at: u16, station: [u8; 6]) -> Asked
 pub fn join(at: u16, station: &[u8; 6], sequence: u16, old: u32, context: &[u8]) -> Asked
     ensures { asked_of result ≡ machine.join at station.now sequence (old_named old) (take 65 context.now) }
 {
-    let s = *station;
-    let from = alone::old_named(old);
-    let n = at_most_65(context.len());
-    let mut octets = [0u8; 65];
-    octets::copy(&context[..n], &mut octets);
+    let len = context.len().min(65);
+    let mut octets = [0; 65];
+    octets::copy(&context[..len], &mut octets);
     Asked {
-        event: Event {
-            kind: Kind::Join,
-            at,
-            station: s,
-            sequence,
-            old: from,
-        },
-        len: n,
+        event: Event::join(at, *station, sequence, alone::old_named(old)),
+        len,
         context: octets,
     }
 }
@@ -144,52 +127,51 @@ pub fn join(at: u16, station: &[u8; 6], sequence: u16, old: u32, context: &[u8])
 pub fn leave(at: u16, station: &[u8; 6]) -> Asked
     ensures { asked_of result ≡ machine.leave at station.now }
 {
-    let s = *station;
-    plainly(Kind::Leave, at, s)
+    plainly(Event::leave(at, *station))
 }
 
 // A packet is taken out and handed to its receiver.
 pub fn deliver(packet: u16) -> Asked
     ensures { asked_of result ≡ machine.deliver packet }
 {
-    plainly(Kind::Deliver, packet, [0u8; 6])
+    plainly(Event::deliver(packet))
 }
 
 // A packet is handed to its receiver and stays.
 pub fn repeat(packet: u16) -> Asked
     ensures { asked_of result ≡ machine.repeat packet }
 {
-    plainly(Kind::Repeat, packet, [0u8; 6])
+    plainly(Event::repeat(packet))
 }
 
 // A packet is taken out.
 pub fn lose(packet: u16) -> Asked
     ensures { asked_of result ≡ machine.lose packet }
 {
-    plainly(Kind::Lose, packet, [0u8; 6])
+    plainly(Event::lose(packet))
 }
 
 // One tick at AP `at`.
 pub fn tick(at: u16) -> Asked
     ensures { asked_of result ≡ machine.tick at }
 {
-    plainly(Kind::Tick, at, [0u8; 6])
+    plainly(Event::tick(at))
 }
 
 // Which APs have a row of the station.
 pub fn who(station: &[u8; 6]) -> Asked
     ensures { asked_of result ≡ machine.who station.now }
 {
-    let s = *station;
-    plainly(Kind::Who, 0, s)
+    plainly(Event::who(*station))
 }
 
 // What is asked, of any record: 14, then the machine's step.
 pub fn event(network: Network, q: Asked) -> Outcome
     ensures { told_of result ≡ event_of network (asked_of q) }
 {
-    let e = q.event;
-    let context = q.context;
-    let n = at_most_65(q.len);
-    in_numbers(floor_link::event(network, e, &context[..n]))
+    let len = q.len.min(65);
+    in_numbers(
+        network,
+        floor_link::event(network, q.event, &q.context[..len]),
+    )
 }

@@ -10,6 +10,7 @@ use native.Mathlib.Nat.{not-suc-le-zero, le_of_suc-le-suc}
 use native.Mathlib.Numerals.{add-one}
 use lib.ListN.{length, get_or, set, take, drop, replicate, drop_of_length-le}
 use lib.Seq.{drop-cons}
+use Rattle.std.specs.List.{list_all}
 use Rattle.lists.specs.Places.{nth, without, every, All, nil, cons}
 use Rattle.lists.proofs.Choices.{and_left, and_right, and_true, not_some, some_inj}
 
@@ -100,3 +101,9 @@ every_next p d xs i l = rw (add-one i, drop-cons xs i d)
 pub every_end : {A : Type 0} (p : A → Bool) (xs : List A) (i : ℕ) → length xs ≤ i → every p (drop i xs) ≡ true
 unfolding every
 every_end p xs i l = rw (drop_of_length-le xs l)
+
+-- the test that `Iterator::all` makes
+pub every_list : {A : Type 0} (p : A → Bool) (xs : List A) → list_all p xs ≡ every p xs
+unfolding every
+every_list p [] = refl
+every_list p (x ∷ xs) = ap (◌&&◌ (p x)) (every_list p xs)

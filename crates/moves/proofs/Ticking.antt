@@ -5,20 +5,23 @@ use mathlib.Core.Path.{◌≡◌, refl, sym, ap, ◌∙◌}
 use mathlib.Core.Bool.{Bool, true, false, cond}
 use mathlib.Core.List.{List, [], ◌∷◌, ◌++◌, map, append-nil}
 use native.Mathlib.Omega.{arith}
-use native.Mathlib.Nat.{le_refl}
 use native.Mathlib.Numerals.{add-one}
 use borrow.Author.Tests.{ltb-true}
 use lib.Dec.{ltb}
-use lib.ListN.{length, take, get_or, set}
-use lib.Seq.{take-suc, length-take-le, take-take}
+use lib.ListN.{length, take, get_or}
+use lib.Seq.{take-suc, length-take-le}
 use Rattle.lists.proofs.Choices.{not_both}
-use Rattle.lists.proofs.Search.{get_or_used}
 use Rattle.elements.specs.declared.Move.{Move}
 use Rattle.machine.specs.Moves.{Open, waits, again, lapses, fate, timed, kept_from, kept, resent_by, resends}
+use Rattle.elements.specs.Blanks.{no_move}
 use Rattle.record.specs.declared.Moves.{Moves}
-use Rattle.record.specs.Lens.{put_moves, named, bare}
+use Rattle.slots.proofs.Laws.{put_more}
+use Rattle.record.specs.Lens.{get_moves, put_moves, named, bare}
 use Rattle.moves.specs.Ticks.{stays, is_due, after}
-use Rattle.moves.proofs.Slots.{past, put_more}
+
+-- what a read past the end of the array gives, in the logic
+abbrev pub past : Move
+past = record { station = []; sequence = 0; old = 0; identifier = 0; ticks_left = 0; resends_left = 0 }
 
 -- The elements that pass a test, each changed, in order
 
@@ -44,20 +47,18 @@ module _ {A : Type 0} (p : A → Bool) (f : A → A) where
       go false l r = refl
 
   -- those among the first i, and the element at i
-  module _ (n : ℕ) (xs : List A) (d : A) (i : ℕ) (l : n ≤ length xs) (h : i < n) where
-    next : picked p f (take (i + 1) (take n xs)) ≡ picked p f (take i (take n xs)) ++ cond (p (get_or xs i d)) (f (get_or xs i d) ∷ []) []
-    next =
-        let q : i < length (take n xs) = omega (arith, length-take-le n xs l) in
-        rw (add-one i, take-suc (take n xs) i d q, get_or_used n xs i d d h l) (picked_last (take i (take n xs)) (get_or xs i d))
+  module _ (xs : List A) (d : A) (i : ℕ) (l : i < length xs) where
+    next : picked p f (take (i + 1) xs) ≡ picked p f (take i xs) ++ cond (p (get_or xs i d)) (f (get_or xs i d) ∷ []) []
+    next = rw (add-one i, take-suc xs i d l) (picked_last (take i xs) (get_or xs i d))
 
-    pub picked_in : p (get_or xs i d) ≡ true → picked p f (take (i + 1) (take n xs)) ≡ picked p f (take i (take n xs)) ++ (f (get_or xs i d) ∷ [])
+    pub picked_in : p (get_or xs i d) ≡ true → picked p f (take (i + 1) xs) ≡ picked p f (take i xs) ++ (f (get_or xs i d) ∷ [])
     picked_in e = next ∙ rw e
 
-    pub picked_out : p (get_or xs i d) ≡ false → picked p f (take (i + 1) (take n xs)) ≡ picked p f (take i (take n xs))
+    pub picked_out : p (get_or xs i d) ≡ false → picked p f (take (i + 1) xs) ≡ picked p f (take i xs)
     picked_out e = next ∙ rw (e, append-nil)
 
-    pub picked_room : length (picked p f (take i (take n xs))) < n
-    picked_room = omega (arith, picked_few (take i (take n xs)), length-take-le i (take n xs) (omega (arith, length-take-le n xs l)))
+    pub picked_room : length (picked p f (take i xs)) < length xs
+    picked_room = omega (arith, picked_few (take i xs), length-take-le i xs (omega arith))
 
 -- The moves that a tick keeps, and those that it sends again, are picked so
 
@@ -109,23 +110,18 @@ pub waits_left : (m : Move) → stays m ≡ true → is_due m ≡ false → 1 < 
 unfolding stays
 waits_left m s d = ltb-true 1 m.ticks_left (rw d at s)
 
--- A loop that has picked among the first i of the used moves, and put them down in the place of those of a record
+-- Moves put down in the place of those of a record, among the first i of the used moves of another
 
-module _ (p : Move → Bool) (f : Move → Move) (t o : Moves) (n : ℕ) (items : List Move) (i : ℕ) (l : n ≤ length items) (h : i < n) (e : o ≡ put_moves t (picked p f (take i (take n items)))) where
-  pub room : o.count < n
-  unfolding put_moves
-  room = omega (arith, ap (λ (w : Moves). w.count) e, picked_room p f n items past i l h)
+module _ (p : Move → Bool) (f : Move → Move) (t o : Moves) (xs : List Move) (i : ℕ) (l : i < length xs) (e : o ≡ put_moves t (picked p f (take i xs))) where
+  pub room : o.count < length xs
+  room = omega (arith, ap (λ (w : Moves). w.count) e, picked_room p f xs past i l)
 
-  pub put_in : t.count ≤ length t.items → n ≤ length t.items → p (get_or items i past) ≡ true
-      → record { items = set o.items o.count (f (get_or items i past)); count = o.count + 1 } ≡ put_moves t (picked p f (take (i + 1) (take n items)))
-  put_in j k a =
-      put_more t o (picked p f (take i (take n items))) (f (get_or items i past)) e j (omega (arith, picked_room p f n items past i l h))
-      ∙ ap (put_moves t) (sym (picked_in p f n items past i l h a))
+  pub put_in : p (get_or xs i past) ≡ true
+      → put_moves o (get_moves o ++ (f (get_or xs i past) ∷ [])) ≡ put_moves t (picked p f (take (i + 1) xs))
+  put_in a =
+      ap (λ (w : Moves). put_moves w (get_moves w ++ (f (get_or xs i past) ∷ []))) e
+      ∙ put_more (λ (ms : List Move) (n : ℕ). record { items = ms; count = n }) no_move t.count t.items (picked p f (take i xs)) (f (get_or xs i past))
+      ∙ ap (put_moves t) (sym (picked_in p f xs past i l a))
 
-  pub put_out : p (get_or items i past) ≡ false → o ≡ put_moves t (picked p f (take (i + 1) (take n items)))
-  put_out a = e ∙ ap (put_moves t) (sym (picked_out p f n items past i l h a))
-
--- at the end all are picked
-pub put_all : (p : Move → Bool) (f : Move → Move) (t : Moves) (n : ℕ) (items : List Move) (i : ℕ) → i ≡ n
-    → put_moves t (picked p f (take i (take n items))) ≡ put_moves t (picked p f (take n items))
-put_all p f t n items i e = rw (e, take-take n n items (le_refl n))
+  pub put_out : p (get_or xs i past) ≡ false → o ≡ put_moves t (picked p f (take (i + 1) xs))
+  put_out a = e ∙ ap (put_moves t) (sym (picked_out p f xs past i l a))

@@ -18,14 +18,14 @@ use Rattle.machine.specs.History.{run, begin}
 use Rattle.machine.proofs.Limits.{ArrayIn, PointIn, Valid}
 use Rattle.machine.proofs.Valid.{setup_in, valid_from_new}
 use Rattle.machine.proofs.Refusal14.{points_all}
-use Rattle.record.specs.Slots.{over, no_association, no_move}
-use Rattle.record.specs.Lens.{put_associations, put_moves, bare, put_point}
-use Rattle.record.proofs.Over.{unused_blank}
-use Rattle.record.proofs.LensLaws.{associations_got}
-use Rattle.network.specs.Lens.{no_in_flight, put_in_flight, put_points, put, new_point, new_network}
+use Rattle.slots.specs.Lists.{over}
+use Rattle.elements.specs.Blanks.{no_association, no_move}
+use Rattle.record.specs.Lens.{bare, put_point}
+use Rattle.slots.proofs.Over.{take_over, unused_blank}
+use Rattle.elements.specs.Blanks.{no_in_flight}
+use Rattle.network.specs.Lens.{put_points, put, new_point, new_network}
 use Rattle.network.specs.Events.{run_of}
 use Rattle.network.specs.Clean.{BlankPast, CleanPoint, Clean}
-use Rattle.network.proofs.LensLaws.{in_flight_got}
 use Rattle.network.proofs.Reached.{reached}
 
 -- an array that is blanks past k
@@ -49,9 +49,9 @@ point_clean : {n : ℕ} (p : machine.AccessPoint) → PointIn (Unit {0}) n p →
 unfolding put_point new_point
 point_clean p h =
     record {
-      associations = unfold put_associations in over_blanks no_association 16 p.associations;
-      contexts = rw (associations_got new_point.associations p.associations) (all_map (λ r k. array_clean 64 r.context_len r.context k.context) h.associations);
-      moves = unfold put_moves in over_blanks no_move 8 (map bare p.moves);
+      associations = over_blanks no_association 16 p.associations;
+      contexts = rw (take_over no_association new_point.associations.count p.associations new_point.associations.items) (all_map (λ r k. array_clean 64 r.context_len r.context k.context) h.associations);
+      moves = over_blanks no_move 8 (map bare p.moves);
     }
 
 points_clean : {n : ℕ} (m : ℕ) (ps : List machine.AccessPoint) → All (PointIn (Unit {0}) n) ps → All CleanPoint (take (length ps) (put_points (replicate m new_point) ps))
@@ -74,8 +74,8 @@ put_clean n t r f v =
     record {
       points = points_clean 8 f.points (points_all f v);
       beyond = points_beyond 8 f.points;
-      in_flight = unfold put_in_flight in over_blanks no_in_flight 64 f.in_flight;
-      packets = rw (in_flight_got (new_network n t r).in_flight f.in_flight) (all_map (λ p k. array_clean 82 p.len p.octets k.octets) v.air);
+      in_flight = over_blanks no_in_flight 64 f.in_flight;
+      packets = rw (take_over no_in_flight (new_network n t r).in_flight.count f.in_flight (new_network n t r).in_flight.items) (all_map (λ p k. array_clean 82 p.len p.octets k.octets) v.air);
     }
 
 pub clean : (n t r : ℕ) → valid_setup n t r ≡ true → (es : List Event) → All Formed es → Clean (run_of (new_network n t r) es)

@@ -10,20 +10,22 @@ use native.Mathlib.Nat.{not-suc-le-zero, le_of_suc-le-suc}
 use lib.ListN.{length, take, replicate, length-map}
 use lib.Seq.{length-take-le}
 use Rattle.lists.specs.Places.{All, nil, cons}
-use Rattle.elements.specs.declared.InFlight.{InFlight}
 use Rattle.machine.specs.Moves.{Open}
 use Rattle.machine.specs.AccessPoint as machine
 use Rattle.machine.specs.Network as floor
 use Rattle.machine.proofs.Renaming.{map_open}
 use Rattle.machine.proofs.Runs.{rename_point, rename_network, nameless}
 use Rattle.record.specs.declared.AccessPoint.{AccessPoint}
-use Rattle.record.specs.Slots.{no_association, no_move}
-use Rattle.record.specs.Lens.{put_associations, put_moves, named, bare, get_point, put_point}
-use Rattle.record.proofs.Over.{over_take, take_over, over_over, over_blank}
-use Rattle.record.proofs.LensLaws.{Fits, associations_got, moves_got, point_kept}
-use Rattle.network.specs.declared.InFlights.{InFlights}
+use Rattle.elements.specs.Blanks.{no_association, no_move}
+use Rattle.record.specs.Lens.{named, bare, get_point, put_point}
+use Rattle.slots.proofs.Over.{take_over, over_over, over_blank}
+use Rattle.slots.proofs.Laws.{kept}
+use Rattle.record.proofs.LensLaws.{Fits, point_kept}
 use Rattle.network.specs.declared.Network.{Network}
-use Rattle.network.specs.Lens.{no_in_flight, get_in_flight, put_in_flight, put_points, get, put, new_point, new_network}
+use Rattle.elements.specs.Blanks.{no_in_flight}
+use Rattle.network.specs.declared.InFlights.{InFlights}
+use Rattle.elements.specs.declared.InFlight.{InFlight}
+use Rattle.network.specs.Lens.{get_in_flight, put_in_flight, put_points, get, put, new_point, new_network}
 
 -- a record's moves have no names
 abbrev pub no_name : ℕ → ℕ
@@ -36,13 +38,9 @@ named_bare (m ∷ ms) = ap (◌∷◌ (record { move = m.move; name = 0 })) (nam
 
 -- What was put is got
 
-pub in_flight_got : (t : InFlights) (ws : List InFlight) → get_in_flight (put_in_flight t ws) ≡ ws
-unfolding get_in_flight put_in_flight
-in_flight_got t ws = take_over no_in_flight _ ws t.items
-
 pub point_got : (a : AccessPoint) (p : machine.AccessPoint) → get_point (put_point a p) ≡ rename_point no_name p
 unfolding get_point put_point rename_point
-point_got a p = rw (associations_got a.associations p.associations, moves_got a.moves (map bare p.moves), named_bare p.moves)
+point_got a p = rw (take_over no_association a.associations.count p.associations a.associations.items, take_over no_move a.moves.count (map bare p.moves) a.moves.items, named_bare p.moves)
 
 points_got : (xs : List AccessPoint) (ps : List machine.AccessPoint) → length ps ≤ length xs
     → map get_point (take (length ps) (put_points xs ps)) ≡ map (rename_point no_name) ps
@@ -53,7 +51,7 @@ points_got (x ∷ xs) (p ∷ ps) l = rw (point_got x p, points_got xs ps (le_of_
 
 pub get_put : (w : Network) (f : floor.Network) → length f.points ≤ length w.points → get (put w f) ≡ nameless f
 unfolding get put nameless rename_network
-get_put w f l = rw (points_got w.points f.points l, in_flight_got w.in_flight f.in_flight)
+get_put w f l = rw (points_got w.points f.points l, take_over no_in_flight w.in_flight.count f.in_flight w.in_flight.items)
 
 -- Put over another. Where n slots were used, k then and l at last, k used none that was not used before and is free at last.
 
@@ -77,7 +75,7 @@ pub record NetworkFollows (w : Network) (f g : floor.Network) : Type 0 where
   pub air : Follows w.in_flight.count (length f.in_flight) (length g.in_flight)
 
 point_twice : (a : AccessPoint) (p q : machine.AccessPoint) → PointFollows a p q → put_point (put_point a p) q ≡ put_point a q
-unfolding put_point put_associations put_moves
+unfolding put_point
 point_twice a p q z =
     rw (over_over no_association a.associations.count p.associations q.associations a.associations.items z.associations, over_over no_move a.moves.count (map bare p.moves) (map bare q.moves) a.moves.items z.moves)
 
@@ -90,7 +88,7 @@ points_twice [] (p ∷ ps) (q ∷ qs) h = refl
 points_twice (x ∷ xs) (p ∷ ps) (q ∷ qs) h = rw (point_twice x p q h.0, points_twice xs ps qs h.1)
 
 pub put_put : (w : Network) (f g : floor.Network) → NetworkFollows w f g → put (put w f) g ≡ put w g
-unfolding put put_in_flight
+unfolding put
 put_put w f g z =
     rw (points_twice w.points f.points g.points z.points, over_over no_in_flight w.in_flight.count f.in_flight g.in_flight w.in_flight.items z.air)
 
@@ -102,7 +100,7 @@ pub record Small (p : machine.AccessPoint) : Type 0 where
   pub moves : length p.moves ≤ 8
 
 point_anew : (p q : machine.AccessPoint) → Small p → Small q → put_point (put_point new_point p) q ≡ put_point new_point q
-unfolding put_point put_associations put_moves new_point
+unfolding put_point new_point
 point_anew p q h k =
     rw (over_blank no_association 16 p.associations q.associations h.associations k.associations, over_blank no_move 8 (map bare p.moves) (map bare q.moves) (rw (length-map p.moves bare) h.moves) (rw (length-map q.moves bare) k.moves))
 
@@ -121,15 +119,14 @@ pub record SmallNetwork (f : floor.Network) : Type 0 where
 
 pub put_new : (n t r : ℕ) (f g : floor.Network) → length f.points ≡ length g.points → SmallNetwork f → SmallNetwork g
     → put (put (new_network n t r) f) g ≡ put (new_network n t r) g
-unfolding put new_network put_in_flight
+unfolding put new_network
 put_new n t r f g e h k =
     rw (points_anew 8 f.points g.points e h.points k.points, over_blank no_in_flight 64 f.in_flight g.in_flight h.air k.air)
 
 -- What was got is put back
 
 pub in_flight_kept : (t : InFlights) → t.count ≤ length t.items → put_in_flight t (get_in_flight t) ≡ t
-unfolding get_in_flight put_in_flight
-in_flight_kept t h = rw (over_take no_in_flight t.count t.items h, length-take-le t.count t.items h)
+in_flight_kept t h = kept (λ (xs : List InFlight) (n : ℕ). record { items = xs; count = n }) no_in_flight t.count t.items h
 
 pub points_kept : (n : ℕ) (xs : List AccessPoint) → All Fits (take n xs) → put_points xs (map get_point (take n xs)) ≡ xs
 unfolding put_points

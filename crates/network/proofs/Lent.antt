@@ -23,21 +23,11 @@ use Rattle.record.specs.Valid.{valid_record, Usable}
 use Rattle.record.proofs.LensLaws.{Fits}
 use Rattle.record.proofs.ValidLaws.{valid_says}
 use Rattle.network.specs.declared.Network.{Network}
+use Rattle.network.specs.Sizes.{PointSized, Sized}
 use Rattle.network.specs.Lens.{get}
 use Rattle.network.specs.Events.{valid_network_record, Reply, reply_of, line_of, refused, event_of}
 use Rattle.network.proofs.LensLaws.{NetworkFits, put_get}
 use Rattle.network.proofs.Refusal14.{valid_put}
-
--- what the types say of the arrays
-
-pub record PointSized (a : AccessPoint) : Type 0 where
-  pub associations : length a.associations.items ≡ 16
-  pub moves : length a.moves.items ≡ 8
-
-pub record Sized (w : Network) : Type 0 where
-  pub points : length w.points ≡ 8
-  pub each : All PointSized w.points
-  pub air : length w.in_flight.items ≡ 64
 
 point_fits : (k : ℕ) (a : AccessPoint) → PointSized a → valid_record k a ≡ true → Fits a
 point_fits k a z e =

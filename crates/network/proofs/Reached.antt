@@ -21,10 +21,10 @@ use Rattle.machine.proofs.Refusal14.{points_all, valid_passes}
 use Rattle.machine.proofs.Renaming.{map_open, map_happened}
 use Rattle.machine.proofs.Runs.{nameless, rename_outcome, step_renamed}
 use Rattle.machine.proofs.Claim.{claim}
-use Rattle.record.specs.Slots.{over}
-use Rattle.record.specs.Lens.{put_associations, put_moves, put_point}
+use Rattle.slots.specs.Lists.{over}
+use Rattle.record.specs.Lens.{put_point}
 use Rattle.network.specs.declared.Network.{Network}
-use Rattle.network.specs.Lens.{put_in_flight, put_points, get, put, new_point, new_network}
+use Rattle.network.specs.Lens.{put_points, get, put, new_point, new_network}
 use Rattle.network.specs.Events.{valid_network_record, line_of, Reply, reply_of, refused, event_of, run_of, lines_of}
 use Rattle.network.specs.Demand.{entry_line, answered_of, Demand}
 use Rattle.network.proofs.LensLaws.{no_name, get_put, SmallNetwork, put_new, put_nameless}
@@ -121,10 +121,10 @@ points_new : (m n : ℕ) → put_points (replicate m new_point) (replicate n mac
 unfolding put_points
 points_new m zero = refl
 points_new zero (suc n) = refl
-points_new (suc m) (suc n) = rw (points_new m n) (unfold put_point put_associations put_moves over new_point machine.new_point in refl)
+points_new (suc m) (suc n) = rw (points_new m n) (unfold put_point over new_point machine.new_point in refl)
 
 pub put_begin : (n t r : ℕ) → put (new_network n t r) (begin n t r).network ≡ new_network n t r
-unfolding put new_network begin floor.new_network put_in_flight over
+unfolding put new_network begin floor.new_network over
 put_begin n t r = rw (length-replicate n machine.new_point, points_new 8 n)
 
 -- from a new network, for every list of events

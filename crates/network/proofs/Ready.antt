@@ -22,16 +22,18 @@ use Rattle.machine.proofs.Renaming.{map_open}
 use Rattle.machine.proofs.Refusal14.{MoveTyped, PointTyped, NetworkTyped, valid_in, valid_kept}
 use Rattle.machine.proofs.Runs.{rename_point, rename_network, nameless}
 use Rattle.record.specs.declared.AccessPoint.{AccessPoint}
-use Rattle.record.specs.Slots.{no_association, no_move}
-use Rattle.record.specs.Lens.{put_associations, put_moves, bare, put_point}
-use Rattle.record.proofs.Over.{length_over}
+use Rattle.elements.specs.Blanks.{no_association, no_move}
+use Rattle.record.specs.Lens.{bare, put_point}
+use Rattle.slots.proofs.Over.{length_over}
 use Rattle.record.proofs.LensLaws.{Fits}
 use Rattle.network.specs.contracts.Network as N
 use Rattle.network.specs.declared.Network.{Network}
-use Rattle.network.specs.Lens.{no_in_flight, put_in_flight, put_points, get, put}
+use Rattle.elements.specs.Blanks.{no_in_flight}
+use Rattle.network.specs.Lens.{put_points, get, put}
 use Rattle.network.specs.Events.{valid_network_record, Reply, reply_of, event_of}
 use Rattle.network.proofs.LensLaws.{no_name, get_put, Small, SmallNetwork, NetworkFits}
-use Rattle.network.proofs.Lent.{PointSized, Sized, valid_fits, got_count, valid_got, event_valid, event_kept}
+use Rattle.network.specs.Sizes.{PointSized, Sized}
+use Rattle.network.proofs.Lent.{valid_fits, got_count, valid_got, event_valid, event_kept}
 use Rattle.network.proofs.Sizes.{sized}
 use Rattle.network.proofs.Typed.{typed}
 use Rattle.network.proofs.Reached.{small}
@@ -51,7 +53,7 @@ ready_fits w h = valid_fits w h.sized h.valid
 -- What is put back has the sizes that were there
 
 point_sized : (a : AccessPoint) (p : machine.AccessPoint) → PointSized a → Fits a → Small p → PointSized (put_point a p)
-unfolding put_point put_associations put_moves
+unfolding put_point
 point_sized a p z f s =
     let m : length (map bare p.moves) ≤ length a.moves.items = omega (arith, length-map p.moves bare, s.moves, z.moves) in
     record {
@@ -72,7 +74,7 @@ points_length [] (p ∷ ps) = refl
 points_length (x ∷ xs) (p ∷ ps) = ap suc (points_length xs ps)
 
 put_sized : (w : Network) (f : floor.Network) → Sized w → NetworkFits w → length f.points ≡ w.ap_count → SmallNetwork f → Sized (put w f)
-unfolding put put_in_flight
+unfolding put
 put_sized w f z h e s =
     record {
       points = points_length w.points f.points ∙ z.points;

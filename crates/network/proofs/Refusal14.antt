@@ -18,12 +18,14 @@ use Rattle.machine.specs.Valid.{valid_association, distinct, valid_move, valid_p
 use Rattle.machine.proofs.Renaming.{map_open}
 use Rattle.machine.proofs.Runs.{rename_point}
 use Rattle.record.specs.declared.AccessPoint.{AccessPoint}
-use Rattle.record.specs.Lens.{put_associations, put_moves, bare, put_point}
+use Rattle.record.specs.Lens.{bare, put_point}
 use Rattle.record.specs.Valid.{valid_record}
 use Rattle.network.specs.declared.Network.{Network}
-use Rattle.network.specs.Lens.{put_in_flight, put_points, put}
+use Rattle.network.specs.Lens.{put_points, put}
 use Rattle.network.specs.Events.{valid_network_record, refused, event_of}
-use Rattle.network.proofs.LensLaws.{no_name, in_flight_got, point_got}
+use Rattle.elements.specs.Blanks.{no_in_flight}
+use Rattle.slots.proofs.Over.{take_over}
+use Rattle.network.proofs.LensLaws.{no_name, point_got}
 
 -- "also gets 14, before every other number"
 pub gets_14 : (w : Network) (e : Event) → valid_network_record w ≡ false → event_of w e ≡ refused 14 w
@@ -45,7 +47,7 @@ point_tested : (k : ℕ) (x : AccessPoint) (p : machine.AccessPoint) → valid_r
 unfolding valid_record
 point_tested k x p =
     ap (λ (m : machine.AccessPoint). leb (put_point x p).associations.count 16 && (leb (put_point x p).moves.count 8 && valid_point k m)) (point_got x p)
-    ∙ (unfold put_point put_associations put_moves valid_point rename_point in
+    ∙ (unfold put_point valid_point rename_point in
     rw (length-map p.moves bare, length-map p.moves (map_open no_name (λ c. c)), moves_renamed k p.moves)
     (twice_tested (leb (length p.associations) 16) (leb (length p.moves) 8) (every valid_association p.associations) (distinct p.associations) (every (valid_move k) p.moves)))
 
@@ -59,5 +61,5 @@ points_tested k (x ∷ xs) (p ∷ ps) l = rw (point_tested k x p, points_tested 
 pub valid_put : (w : Network) (f : floor.Network) → length f.points ≤ length w.points → valid_network_record (put w f) ≡ valid_network f
 unfolding valid_network_record valid_network put
 valid_put w f l =
-    rw (points_tested (length f.points) w.points f.points l, in_flight_got w.in_flight f.in_flight)
-    (unfold put_in_flight in refl)
+    rw (points_tested (length f.points) w.points f.points l, take_over no_in_flight w.in_flight.count f.in_flight w.in_flight.items)
+    (refl)

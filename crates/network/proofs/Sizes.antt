@@ -12,7 +12,7 @@ use Rattle.record.specs.contracts.AccessPoint as A
 use Rattle.record.proofs.Sizes.{association_slots, move_slots}
 use Rattle.network.specs.contracts.Network as N
 use Rattle.network.specs.declared.Network.{Network}
-use Rattle.network.proofs.Lent.{Sized}
+use Rattle.network.specs.Sizes.{Sized}
 
 -- what the type says of each element of an array
 pub each_all : {X : Type 0} {P : X → Type 0} (own : X → List Val → Fml) (xs : List X) (us : List Val)

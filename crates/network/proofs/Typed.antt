@@ -22,10 +22,10 @@ use Rattle.machine.specs.Events.{Event, Octet, Formed}
 use Rattle.machine.proofs.Refusal14.{AssociationTyped, MoveTyped, PointTyped, InFlightTyped, NetworkTyped}
 use Rattle.record.specs.contracts.AccessPoint as A
 use Rattle.record.specs.declared.AccessPoint.{AccessPoint}
-use Rattle.record.specs.Lens.{get_associations, get_moves, named, get_point}
+use Rattle.record.specs.Lens.{named, get_point}
 use Rattle.network.specs.contracts.Network as N
 use Rattle.network.specs.declared.Network.{Network}
-use Rattle.network.specs.Lens.{get_in_flight, get}
+use Rattle.network.specs.Lens.{get}
 use Rattle.network.specs.Events.{valid_network_record, event_of}
 use Rattle.network.proofs.LensLaws.{NetworkFits}
 use Rattle.network.proofs.Lent.{valid_fits, event_kept}
@@ -68,7 +68,7 @@ in_flight_typed p u g =
 -- an access point and the network
 
 point_typed : (a : AccessPoint) (u : Val) → Is (row A.the_type) a (u ∷ []) → PointTyped (get_point a)
-unfolding get_point get_associations get_moves
+unfolding get_point
 point_typed a u g =
     let r = g.1.1.0.1.1.0 in
     let m = g.1.1.1.0.1.1.0 in
@@ -81,7 +81,7 @@ point_typed a u g =
 
 module _ (w : Network) (vs : List Val) (g : Is (row N.the_type) w vs) where
   pub typed : NetworkTyped (get w)
-  unfolding get get_in_flight
+  unfolding get
   typed =
       let a = g.1.1.1.1.1.0 in
       let f = g.1.1.1.1.1.1.0.1.1.0 in

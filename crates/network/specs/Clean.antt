@@ -4,10 +4,11 @@ use Rattle.lists.specs.Places.{All}
 use Rattle.elements.specs.declared.Association.{Association}
 use Rattle.elements.specs.declared.InFlight.{InFlight}
 use Rattle.record.specs.declared.AccessPoint.{AccessPoint}
-use Rattle.record.specs.Slots.{no_association, no_move}
+use Rattle.elements.specs.Blanks.{no_association, no_move}
 use Rattle.record.specs.Lens.{get_associations}
 use Rattle.network.specs.declared.Network.{Network}
-use Rattle.network.specs.Lens.{no_in_flight, get_in_flight, new_point}
+use Rattle.elements.specs.Blanks.{no_in_flight}
+use Rattle.network.specs.Lens.{get_in_flight, new_point}
 
 -- of an array of which k slots are used, the others hold b
 abbrev pub BlankPast : {A : Type 0} → A → ℕ → List A → Type 0

@@ -6,7 +6,7 @@ use Rattle.machine.specs.Moves.{Open}
 use Rattle.machine.specs.Network as floor
 use Rattle.machine.specs.Events.{Event, tick, Outcome, given_up_count, step}
 use Rattle.machine.specs.Valid.{distinct, valid_point, valid_in_flight, valid_setup}
-use Rattle.record.specs.Lens.{get_associations, get_moves, get_point}
+use Rattle.record.specs.Lens.{get_point}
 use Rattle.record.specs.Valid.{valid_record}
 use Rattle.network.specs.declared.Network.{Network}
 use Rattle.network.specs.Lens.{get_in_flight, get, put, new_point, new_network}
@@ -82,5 +82,5 @@ pub unused_passes : valid_network_record
       in_flight = record { items = []; count = 0 };
     })
     ≡ true
-unfolding valid_network_record valid_setup floor.setup_tests every valid_record valid_point distinct new_point get_point get_associations get_moves get_in_flight
+unfolding valid_network_record valid_setup floor.setup_tests every valid_record valid_point distinct new_point get_point
 unused_passes = refl

@@ -30,7 +30,7 @@ fn act(rt: &impl Print, before: Network, line: Line) -> Result<Network> {
     match first {
         b"floor" => turns::floor(rt, line),
         b"set" => parts::set(rt, before, line),
-        word => match turns::kind(word) {
+        word => match script_fields::read_kind(word) {
             Some(kind) => turns::turn(rt, before, kind, line),
             None => {
                 rt.write_all(line.0)?;
@@ -43,14 +43,15 @@ fn act(rt: &impl Print, before: Network, line: Line) -> Result<Network> {
 
 // The lines in order, each on the record that the one before left. At first it is the one of a refused set-up.
 fn run(rt: &impl Print, text: &[u8]) -> Result<()> {
-    let mut n = floor_link::set_up(0, 0, 0).network;
+    let mut n = turns::nothing_set_up();
     for line in text.split_inclusive(|x| *x == b'\n') {
         n = act(rt, n, Line(line.strip_suffix(b"\n").unwrap_or(line)))?;
     }
     Ok(())
 }
 
-// Reads to the end, or till the buffer is full; an error is the end. How many octets there are.
+// Reads to the end, or till the buffer is full; an error is the end. How many octets there are. Stays a loop: how far the next read goes is
+// what this one gives.
 fn read_full(from: &mut impl Read, into: &mut [u8]) -> usize
     ensures { result ≤ length into.old }
 {

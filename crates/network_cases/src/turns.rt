@@ -2,30 +2,28 @@
 use crate::digest;
 use crate::words::Line;
 use events::{Event, Kind};
+use floor_link::Reply;
 use network::Network;
 use std::io::Result;
 
-// floor APS TIMEOUT RESENDS
-pub fn floor(rt: &impl Print, line: Line) -> Result<Network> {
-    let s = floor_link::set_up(line.number(1), line.number(2), line.number(3));
-    let answer = answers::number(s.answer);
-    rt.write_all(line.0)?;
-    println!(rt; " : {answer} {}", digest::of_network(&s.network))?;
-    Ok(s.network)
+// A network of no APs, to which 14 applies: what there is before set-up, and after a refused one.
+pub fn nothing_set_up() -> Network {
+    network::new_network(0, 0, 0)
 }
 
-// The event of a name.
-pub fn kind(word: &[u8]) -> Option<Kind> {
-    match word {
-        b"join" => Some(Kind::Join),
-        b"leave" => Some(Kind::Leave),
-        b"deliver" => Some(Kind::Deliver),
-        b"repeat" => Some(Kind::Repeat),
-        b"lose" => Some(Kind::Lose),
-        b"tick" => Some(Kind::Tick),
-        b"who" => Some(Kind::Who),
-        _ => None,
-    }
+// floor APS TIMEOUT RESENDS
+pub fn floor(rt: &impl Print, line: Line) -> Result<Network> {
+    let (answer, network) = match floor_link::set_up(
+        line.number(1),
+        line.number(2),
+        line.number(3),
+    ) {
+        Ok(network) => (0, network),
+        Err(refusal) => (u8::from(refusal), nothing_set_up()),
+    };
+    rt.write_all(line.0)?;
+    println!(rt; " : {answer} {}", digest::of_network(&network))?;
+    Ok(network)
 }
 
 // EVENT AT STATION SEQ OLD CONTEXT: of the context the line says how many octets it has, 320 at most. They start at the sequence
@@ -43,17 +41,26 @@ pub fn turn(rt: &impl Print, before: Network, kind: Kind, line: Line) -> Result<
     let octets = cases::rising::<576>();
     let start = (sequence % 256) as usize;
     let end = start + (line.number(5) as usize).min(320);
-    let r = floor_link::event(before, e, &octets[start..end]);
-    let x = r.line;
     rt.write_all(line.0)?;
-    println!(rt;
-        " : {} {} {} {} {} {}",
-        answers::number(x.answer),
-        x.sent,
-        x.given_up,
-        x.held,
-        x.tables,
-        digest::of_network(&r.network)
-    )?;
-    Ok(r.network)
+    match floor_link::event(before, e, &octets[start..end]) {
+        Ok(Reply { line, network }) => {
+            println!(rt;
+                " : 0 {} {} {} {} {}",
+                line.sent,
+                line.given_up,
+                line.held,
+                line.tables,
+                digest::of_network(&network)
+            )?;
+            Ok(network)
+        }
+        Err(refusal) => {
+            println!(rt;
+                " : {} 0 0 0 0 {}",
+                u8::from(refusal),
+                digest::of_network(&before)
+            )?;
+            Ok(before)
+        }
+    }
 }

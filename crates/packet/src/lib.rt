@@ -44,6 +44,7 @@ impl TryFrom<u8> for Command {
 pub struct Packet {
     pub command: Command,
     pub identifier: u16,
+    // Stays a number: the writer refuses one above 1 with 8, and an enum of the two would ask more of its caller.
     pub status: u8,
     pub station: [u8; 6],
     pub sequence: u16,

@@ -15,7 +15,7 @@ fn seen(l: LoneAccessPoint, station: [u8; 6]) -> Option<Excerpt>
     ensures { IfSome result (Seen station l.point) }
 {
     if access_point::valid(l.point, l.ap_count) {
-        Some(excerpt::of(l.point, station))
+        Some(excerpt::of(&l.point, station))
     } else {
         None
     }
@@ -37,7 +37,7 @@ pub fn join(
         resend_limit: l.resend_limit,
     };
     let joined = joining::join(x, l.number, setup, request, context)?;
-    let point = excerpt::put_back(l.point, joined.after);
+    let point = excerpt::put_back(&l.point, &joined.after);
     Ok((LoneAccessPoint { point, ..l }, joined.notice))
 }
 
@@ -61,7 +61,7 @@ pub fn left(l: LoneAccessPoint, k: u8) -> LoneAccessPoint {
     let Some(x) = seen(l, records::station(k)) else {
         return l;
     };
-    let point = excerpt::put_back(l.point, receiving::leave(x));
+    let point = excerpt::put_back(&l.point, &receiving::leave(x));
     LoneAccessPoint { point, ..l }
 }
 

@@ -132,7 +132,7 @@ fn wraps(rt: &impl Print) -> Result<()> {
     Ok(())
 }
 
-// Sixteen rows: stations 1 to 16, each with its own number as context.
+// Sixteen rows: stations 1 to 16, each with its own number as context. Stays a loop over numbers, as `full_moves`: they are the stations.
 fn full_table() -> LoneAccessPoint {
     let mut l = records::new();
     for k in 1..17 {

@@ -3,25 +3,13 @@ ghost use Rattle.std.specs.Prelude.{◌<◌, ◌≤◌, length};
 
 use elements::{Association, Move};
 use joining::Request;
-use record::{AccessPoint, Associations, LoneAccessPoint, Moves};
+use record::{AccessPoint, LoneAccessPoint};
 
 // AP 1 of a floor of 3, with T = 2 and R = 1, just set up: no rows, no moves, next identifier 0 and all counts 0. Most cases start
 // here.
 pub fn new() -> LoneAccessPoint {
-    let blank = associations::blank();
     LoneAccessPoint {
-        point: AccessPoint {
-            associations: Associations {
-                items: [blank; 16],
-                count: 0,
-            },
-            moves: moves::none(),
-            next_identifier: 0,
-            opened: 0,
-            resent: 0,
-            answered: 0,
-            given_up: 0,
-        },
+        point: network::new_point(),
         number: 1,
         ap_count: 3,
         timeout: 2,
@@ -46,7 +34,7 @@ pub fn station(k: u8) -> [u8; 6] {
 // A join of station k.
 pub fn request(k: u8, sequence: u16, old: Option<u16>) -> Request {
     Request {
-        station: [2, 0, 0, 0, 0, k],
+        station: station(k),
         sequence,
         old,
     }
@@ -58,7 +46,7 @@ pub fn row(k: u8, sequence: u16) -> Association {
     context[0] = 0xC1;
     context[1] = 0xC2;
     Association {
-        station: [2, 0, 0, 0, 0, k],
+        station: station(k),
         sequence,
         context_len: 2,
         context,
@@ -68,7 +56,7 @@ pub fn row(k: u8, sequence: u16) -> Association {
 // A move of station k that has AP 0 for its old one.
 pub fn opened(k: u8, sequence: u16, identifier: u16, ticks_left: u16, resends_left: u8) -> Move {
     Move {
-        station: [2, 0, 0, 0, 0, k],
+        station: station(k),
         sequence,
         old: 0,
         identifier,

@@ -4,6 +4,7 @@ use cases::Hex;
 use elements::{Association, Move};
 use joining::{Notice, Request};
 use record::{AccessPoint, LoneAccessPoint, Moves};
+use slots::Blank;
 use std::io::Result;
 
 // Outside bytes to try: the case's name, the sender, the packet and the size of the lent buffer.
@@ -45,8 +46,8 @@ fn show_moves(rt: &impl Print, kind: &str, open: &Moves) -> Result<()> {
 fn show_numbers(rt: &impl Print, a: &AccessPoint) -> Result<()> {
     let rows = &a.associations;
     let open = &a.moves;
-    let no_row = associations::blank();
-    let no_move = moves::blank();
+    let no_row = Association::blank();
+    let no_move = Move::blank();
     println!(rt;
         "  {} {} {} {} {} {} {} {} {}",
         rows.count,

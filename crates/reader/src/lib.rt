@@ -14,11 +14,13 @@ ghost use Rattle.reader.specs.Read.{reading_of, read_as, read_of, context_of};
 use answers::{Answer, Refusal};
 use packet::Command;
 
-// What an accepted packet says. The context block is the part of the packet from octet `start` on, of `len` octets.
+// What an accepted packet says. The context block is the part of the packet from octet `start` on, of `len` octets. Stays two numbers, and
+// no slice: document 01 asks for both in the promise, and C is given them.
 #[derive(Clone, Copy, Debug, PartialEq, Eq)]
 pub struct Received {
     pub command: Command,
     pub identifier: u16,
+    // Stays a number, as it is in Packet and goes out to C.
     pub status: u8,
     pub station: [u8; 6],
     pub sequence: u16,
@@ -70,7 +72,7 @@ fn header(packet: &[u8]) -> Result<Command, Refusal>
     Ok(command)
 }
 
-// The data's refusals, 6 to 9, in a packet with this command, status and size.
+// The data's refusals, 6 to 9, in a packet with this command, status and size. The status stays a number, as it came: 8 is found here.
 #[tactic(auto, using(lists::proofs::Tables::tests), unfolding(crate::specs::Refusals::data_tests))]
 fn data_answer(command: Command, status: u8, size: usize, data: &[u8]) -> Answer
     requires { (10 ≤ length «data».now) × ((octet_of command ≡ 0 → ⊥) → 12 ≤ length «data».now) }

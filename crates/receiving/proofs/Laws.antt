@@ -10,11 +10,9 @@ use Rattle.machine.specs.Associations.{given, association, dissociate_older}
 use Rattle.machine.specs.Packets.{message_of}
 use Rattle.machine.specs.Moves.{agrees}
 use Rattle.machine.specs.AccessPoint.{Action, with_associations, leave_by, receive_by}
-use Rattle.record.specs.declared.Moves.{Moves}
 use Rattle.record.specs.declared.AccessPoint.{AccessPoint}
-use Rattle.record.specs.Slots.{no_association}
 use Rattle.record.specs.Lens.{get_associations, put_associations, get_moves, put_moves, get_point, put_point}
-use Rattle.record.proofs.LensLaws.{point_kept, put_associations_lem, associations_length}
+use Rattle.record.proofs.LensLaws.{point_kept, put_associations_lem}
 use Rattle.record.proofs.ValidLaws.{context_within}
 use Rattle.excerpt.specs.declared.Edit.{Edit}
 use Rattle.excerpt.specs.declared.Edit.TheVariants.{Place, Remove}
@@ -25,13 +23,16 @@ use Rattle.moves.specs.Asked.{asked}
 use Rattle.receiving.specs.declared.Reply.TheVariants.{Successful, StaleMove}
 use Rattle.receiving.specs.Receive.{empty_reply, notify_reply, answered_by}
 use Rattle.receiving.proofs.Rules.{left_none, left_gone, leave_is, older_by, stays_answered, filled_answered, gone_answered, response_is, response_none, response_closes}
+use Rattle.record.specs.declared.Moves.{Moves}
+use Rattle.elements.specs.Blanks.{no_association}
+use lib.Seq.{length-take-le}
 
 module _ (s : Station) (a : AccessPoint) (x : Excerpt) (q : Seen s a x) where
   pub none_there : x.count ≤ x.at → length (get_associations a.associations) ≤ x.at
-  none_there h = omega (arith, (ap (λ (y : Excerpt). y.count) q.same), associations_length a.associations q.rows)
+  none_there h = omega (arith, (ap (λ (y : Excerpt). y.count) q.same), length-take-le a.associations.count a.associations.items q.rows)
 
   pub one_there : x.at < x.count → x.at < length (get_associations a.associations)
-  one_there h = omega (arith, (ap (λ (y : Excerpt). y.count) q.same), associations_length a.associations q.rows)
+  one_there h = omega (arith, (ap (λ (y : Excerpt). y.count) q.same), length-take-le a.associations.count a.associations.items q.rows)
 
   -- whether it can be put back
 

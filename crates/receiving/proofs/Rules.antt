@@ -16,16 +16,17 @@ use Rattle.machine.specs.AccessPoint as machine
 use Rattle.machine.specs.AccessPoint.{Action, with_associations, with_moves, quietly, leave_by, answer_to, answering_with, receive_add, receive_notify, receive_response, receive_by, receive}
 use Rattle.machine.specs.Valid.{distinct}
 use Rattle.record.specs.declared.AccessPoint.{AccessPoint}
-use Rattle.record.specs.declared.Moves.{Moves}
-use Rattle.record.specs.Slots.{no_association, no_move}
 use Rattle.record.specs.Lens.{get_associations, put_associations, get_moves, put_moves, get_point, put_point}
-use Rattle.record.proofs.LensLaws.{Fits, put_parts, point_kept, moves_length}
+use Rattle.record.proofs.LensLaws.{Fits, put_parts, point_kept}
 use Rattle.associations.specs.Rows.{is_of}
 use Rattle.associations.proofs.Laws.{sequence_at, context_at, dissociate_at, older_at, exactly_at, fill_at}
 use Rattle.moves.specs.Asked.{asked}
 use Rattle.moves.proofs.Laws.{asked_by, earliest_asked, close_asked, earliest_at, close_at}
 use Rattle.receiving.specs.declared.Reply.{Reply}
 use Rattle.receiving.specs.Receive.{message_in, replies_of, result_of, handled_by, notify_reply, answered_by}
+use Rattle.record.specs.declared.Moves.{Moves}
+use Rattle.elements.specs.Blanks.{no_association, no_move}
+use lib.Seq.{length-take-le}
 
 -- one station's association in the list rs: at place i, which is the length where there is none
 
@@ -108,14 +109,14 @@ module _ (from : ℕ) (p : Packet) (a : AccessPoint) (z : Fits a) (rs : List Ass
   unfolding receive_response quietly get_point
   response_none h =
       sym
-      (rw (earliest_at from p (get_moves a.moves) no_move, ← e, le-ltb j (length (get_moves a.moves)) (omega (arith, moves_length a.moves z.moves))) (point_kept a z))
+      (rw (earliest_at from p (get_moves a.moves) no_move, ← e, le-ltb j (length (get_moves a.moves)) (omega (arith, length-take-le a.moves.count a.moves.items z.moves))) (point_kept a z))
 
   closes : j < a.moves.count → (ms : Moves) (w : ℕ) → ms ≡ put_moves a.moves (without j (get_moves a.moves)) → w ≡ (a.answered + 1) % 2 ^ 32
       → record { associations = put_associations a.associations rs; moves = ms; next_identifier = a.next_identifier; opened = a.opened; resent = a.resent; answered = w; given_up = a.given_up }
       ≡ put_point a (receive_response from p rs (get_point a)).point
   unfolding receive_response with_moves with_associations answering counts_after counted get_point
   closes h ms w g k =
-      rw (earliest_at from p (get_moves a.moves) no_move, ← e, lt-ltb j (length (get_moves a.moves)) (omega (arith, moves_length a.moves z.moves)))
+      rw (earliest_at from p (get_moves a.moves) no_move, ← e, lt-ltb j (length (get_moves a.moves)) (omega (arith, length-take-le a.moves.count a.moves.items z.moves)))
       (put_parts a _ (put_associations a.associations rs) ms a.next_identifier a.opened a.resent w a.given_up refl
       (g ∙ ap (put_moves a.moves) (sym (close_at from p (get_moves a.moves) ∙ ap (λ (x : ℕ). without x (get_moves a.moves)) (sym e)))) refl refl refl k refl)
 

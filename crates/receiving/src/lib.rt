@@ -16,10 +16,12 @@ ghost use Rattle.receiving.specs.Receive.{IsShort, notify_reply, reply_to, answe
 
 use elements::Association;
 use excerpt::{Edit, Excerpt};
+use moves::Asked;
 use packet::Command;
 use reader::Received;
 
-// The answer to a MOVE-notify. A SUCCESSFUL one has its context in the first len octets; a STALE_MOVE has none.
+// The answer to a MOVE-notify. A SUCCESSFUL one has its context in the first len octets; a STALE_MOVE has none. The length stays beside the
+// octets: that the row's context is within its array holds of an excerpt that is seen, and of no slice taken before.
 #[derive(Clone, Copy)]
 pub enum Reply {
     Successful { len: usize, context: [u8; 64] },
@@ -41,30 +43,33 @@ fn held(x: Excerpt) -> Option<Association>
 }
 
 // The station leaves: its association is removed; none there, nothing changes.
+#[tactic(auto, using(crate::proofs::Laws::leave_none))]
 pub fn leave(x: Excerpt) -> Excerpt
     ensures allowed { (s : Station) (a : AccessPoint) → Seen s a x → Allowed result.edit result.at a.associations.count }
     ensures result_value { (s : Station) (a : AccessPoint) → Seen s a x → put_back a result ≡ put_point a (leave_by s (get_point a)).point }
 {
     match held(x) {
-        Some(row) => excerpt::with_edit(x, Edit::Remove, row),
+        Some(row) => excerpt::with_edit(&x, Edit::Remove, row),
         None => x,
     }
 }
 
 // ADD-notify, and MOVE-notify too: the station's association is removed if the sequence number is newer than its own.
+#[tactic(auto, using(crate::proofs::Laws::older_none, crate::proofs::Laws::older_stays))]
 fn receive_add(x: Excerpt, sequence: u16) -> Excerpt
     ensures allowed { (s : Station) (a : AccessPoint) → Seen s a x → Allowed result.edit result.at a.associations.count }
     ensures result_value { (s : Station) (a : AccessPoint) → Seen s a x → put_back a result ≡ put_point a (with_associations (dissociate_older s sequence (get_associations a.associations)) (get_point a)) }
 {
     match held(x) {
         Some(row) if sequence::newer(sequence, row.sequence) => {
-            excerpt::with_edit(x, Edit::Remove, row)
+            excerpt::with_edit(&x, Edit::Remove, row)
         }
         _ => x,
     }
 }
 
 // The answer to a MOVE-notify: the context is sent where the sequence number is newer.
+#[tactic(auto, using(crate::proofs::Laws::reply_none, crate::proofs::Laws::reply_stays, crate::proofs::Laws::reply_gone))]
 fn notify_reply(x: Excerpt, sequence: u16) -> Reply
     ensures value { (s : Station) (a : AccessPoint) → Seen s a x → result ≡ notify_reply s sequence (get_associations a.associations) }
     ensures len_bound { (s : Station) (a : AccessPoint) → Seen s a x → IsShort result }
@@ -86,7 +91,8 @@ fn notify_reply(x: Excerpt, sequence: u16) -> Reply
 }
 
 // After a MOVE-response that closed a move: the station's association, if it has exactly this number, takes the context or is
-// removed.
+// removed. The status stays a number, as Received has it.
+#[tactic(auto, using(crate::proofs::Laws::answered_none, crate::proofs::Laws::answered_other))]
 fn answered(x: Excerpt, sequence: u16, status: u8, context: &[u8]) -> Excerpt
     requires { length context.now ≤ 64 }
     ensures allowed { (s : Station) (a : AccessPoint) → Seen s a x → Allowed result.edit result.at a.associations.count }
@@ -96,9 +102,9 @@ fn answered(x: Excerpt, sequence: u16, status: u8, context: &[u8]) -> Excerpt
         Some(row) if sequence == row.sequence => {
             if status == 0 {
                 let next = associations::new_association(row.station, row.sequence, context);
-                excerpt::with_edit(x, Edit::Place, next)
+                excerpt::with_edit(&x, Edit::Place, next)
             } else {
-                excerpt::with_edit(x, Edit::Remove, row)
+                excerpt::with_edit(&x, Edit::Remove, row)
             }
         }
         _ => x,
@@ -112,15 +118,29 @@ fn receive_response(x: Excerpt, from: u8, r: Received, context: &[u8]) -> Excerp
     ensures allowed { (a : AccessPoint) → Seen r.station a x → Allowed result.edit result.at a.associations.count }
     ensures result_value { (a : AccessPoint) → Seen r.station a x → put_back a result ≡ put_point a (receive_by (message_of 2 r.status context.now) from (asked r.identifier r.station r.sequence) (get_point a)).point }
 {
-    let open = x.moves;
-    let j = moves::find(open, r.identifier, r.station, r.sequence, from);
+    let Received {
+        identifier,
+        station,
+        sequence,
+        status,
+        ..
+    } = r;
+    let asked = Asked {
+        identifier,
+        station,
+        sequence,
+        from,
+    };
+    let mut open = x.moves;
+    let j = moves::find(&open, &asked);
     if open.count <= j {
         return x;
     }
+    open.remove(j);
     Excerpt {
-        moves: moves::remove(open, j),
+        moves: open,
         answered: x.answered.wrapping_add(1),
-        ..answered(x, r.sequence, r.status, context)
+        ..answered(x, sequence, status, context)
     }
 }
 

@@ -1,4 +1,3 @@
-pub mod Over
 pub mod LensLaws
 pub mod ValidLaws
 pub mod Sizes

@@ -16,7 +16,7 @@ use Rattle.machine.specs.Valid.{valid_association, distinct, valid_move, valid_p
 use Rattle.record.specs.declared.AccessPoint.{AccessPoint}
 use Rattle.record.specs.Lens.{get_associations, get_moves, named, get_point}
 use Rattle.record.specs.Valid.{valid_record, Usable}
-use Rattle.record.proofs.LensLaws.{associations_length, moves_length}
+use lib.Seq.{length-take-le}
 
 -- the test of the associations, and that of the moves where the AP count is k
 abbrev pub associations_ok : AccessPoint → Bool
@@ -49,8 +49,8 @@ in_two k a la lm =
     (leb (length (get_associations a.associations)) 16) (leb (length (map named (get_moves a.moves))) 8)
     (every valid_association (get_associations a.associations)) (distinct (get_associations a.associations))
     (every (valid_move k) (map named (get_moves a.moves)))
-    (λ e. le-leb (length (get_associations a.associations)) 16 (omega (arith, associations_length a.associations (omega (arith, leb-true a.associations.count 16 e)), leb-true a.associations.count 16 e)))
-    (λ e. le-leb (length (map named (get_moves a.moves))) 8 (omega (arith, length-map (get_moves a.moves) named, moves_length a.moves (omega (arith, leb-true a.moves.count 8 e)), leb-true a.moves.count 8 e)))
+    (λ e. le-leb (length (get_associations a.associations)) 16 (omega (arith, length-take-le a.associations.count a.associations.items (omega (arith, leb-true a.associations.count 16 e)), leb-true a.associations.count 16 e)))
+    (λ e. le-leb (length (map named (get_moves a.moves))) 8 (omega (arith, length-map (get_moves a.moves) named, length-take-le a.moves.count a.moves.items (omega (arith, leb-true a.moves.count 8 e)), leb-true a.moves.count 8 e)))
 
 -- what the test says
 pub valid_says : (k : ℕ) (a : AccessPoint) → valid_record k a ≡ true → Usable a

@@ -8,7 +8,8 @@ ghost use Rattle.network.specs.Events.{valid_network_record};
 use network::Network;
 use std::io::{Read, Result};
 
-// How many octets are there, and whether standard input has ended.
+// How many octets are there, and whether standard input has ended. Stays a length with a flag: both always count, so it has not the shape of
+// an Option.
 #[derive(Clone, Copy)]
 struct Got {
     len: usize,
@@ -33,6 +34,7 @@ fn has_three_lines(s: &[u8]) -> bool {
 }
 
 // Reads the first three lines. Of 1024 octets with fewer, one line is too long, and no set-up is good. Each turn reads an octet at least.
+// Stays a loop with a number of turns, as `go_on`: what ends it is what was read, and a proved loop has to end.
 fn first_lines(from: &mut impl Read, input: &mut [u8]) -> Got
     requires { 1024 ≤ length input.old }
     ensures { result.len ≤ length input.old }
@@ -79,9 +81,8 @@ fn show(rt: &impl Print, network: Network, s: &[u8], out: &mut [u8]) -> Result<N
     requires s_in_bounds { 32 * length s.now ≤ length out.old }
     ensures { IfOk result (λ n. valid_network_record n ≡ true) }
 {
-    let p = script_runner::play(network, s, out, true);
-    let n = p.len;
-    rt.write_all(&out[..n])?;
+    let p = script_runner::play(network, s, out);
+    rt.write_all(&out[..p.len])?;
     Ok(p.network)
 }
 
@@ -126,8 +127,10 @@ fn run(rt: &(impl Input + Print), input: &mut [u8], out: &mut [u8]) -> Result<()
     let Some(o) = opening else {
         return rt.write_all(b"? 14 0 0 - -\n");
     };
-    let s = floor_link::set_up(o.aps, o.timeout, o.resends);
-    go_on(rt, &mut from, input, out, s.network, o.next, got)
+    let Ok(network) = floor_link::set_up(o.aps, o.timeout, o.resends) else {
+        return rt.write_all(b"? 14 0 0 - -\n");
+    };
+    go_on(rt, &mut from, input, out, network, o.next, got)
 }
 
 // Room for what 16384 octets print at most.

@@ -75,7 +75,8 @@ fn octet_at(f: &[u8], i: usize) -> u8
     hex_of(f[2 * i]) * 16 + hex_of(f[2 * i + 1])
 }
 
-// The octets of a run of digits, put at the front of a lent part, whose rest stays: how many there are.
+// The octets of a run of digits, put at the front of a lent part, whose rest stays: how many there are. Stays a loop over places: with
+// `chunks_exact` its proof did not close.
 fn put_octets(f: &[u8], octets: &mut [u8]) -> usize
     requires { (length (octets_in f.now) ≤ length octets.old) × (every is_hex f.now ≡ true) }
     ensures value { result ≡ length (octets_in f.now) }
@@ -130,6 +131,9 @@ pub fn read_kind(f: &[u8]) -> Option<Kind>
 {
     KINDS.iter().find(|kind| f == name(**kind)).copied()
 }
+
+// `has` stays a bool in these four: that a field which an event lacks is a dash is a rule of the script, and one `if` in each. One function
+// for all would take a closure and a value for the dash, and is no plainer.
 
 // AT of an event that has it or lacks it, and SEQ.
 #[tactic(auto, unfolding(script::specs::EventLine::number_field))]
@@ -186,7 +190,7 @@ pub fn context_field(has: bool, f: &[u8], context: &mut [u8; 128]) -> Option<usi
     Some(put_octets(f, context))
 }
 
-// Which fields an event has.
+// Which fields an event has. Stay functions: contracts name them.
 
 pub fn has_at(kind: Kind) -> bool
     ensures { result ≡ has_at kind }

@@ -58,8 +58,3 @@ module _ (l b : List ℕ) where
       go None k = tt
       go (Some x) k =
           rw (take-append_seam x.context (drop (length x.context) b)) (event_formed x.kind x.at x.station x.sequence x.old x.context k.station k.context)
-
--- what the reader answers, or what stands for an unreadable line, is what was heard
-pub heard_or : (o : Option code.Heard) (u : code.Heard) → heard_as false u ≡ nothing_heard → heard_as (is_some o) (unwrap_or o u) ≡ heard_from o
-heard_or None u e = e
-heard_or (Some h) u e = refl

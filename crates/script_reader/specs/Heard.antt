@@ -1,5 +1,5 @@
 -- What the code's structs mean: what a line of an event says, and the set-up.
-use Rattle.std.specs.Prelude.{ℕ, ◌-◌, Bool, true, false, cond, List, [], ◌∷◌, eqb, length, replicate}
+use Rattle.std.specs.Prelude.{ℕ, ◌≡◌, refl, ◌-◌, Bool, true, false, cond, List, [], ◌∷◌, eqb, length, replicate}
 use Rattle.std.specs.Prelude.{Option, None, Some}
 use Rattle.lists.specs.Options.{case_option}
 use Rattle.machine.specs.Stations.{Station}
@@ -43,6 +43,10 @@ heard_as readable r =
 abbrev pub heard_from : Option code.Heard → Heard
 heard_from None = nothing_heard
 heard_from (Some r) = heard_as true r
+
+pub nobody_asked : heard_from None ≡ record { readable = false; kind = Who; at = 0; station = 0 ∷ 0 ∷ 0 ∷ 0 ∷ 0 ∷ 0 ∷ []; sequence = 0; old = None; len = 0 }
+unfolding nothing_heard
+nobody_asked = refl
 
 unfoldable pub heard_of : Said → Heard
 heard_of x =

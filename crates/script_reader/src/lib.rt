@@ -13,7 +13,8 @@ use events::{Event, Kind};
 // A line of more octets is unreadable.
 const LONGEST_LINE: usize = 255;
 
-// What a line of an event says. The octets of the context are in the array that was lent.
+// What a line of an event says. The octets of the context are in the array that was lent; their length stays a number, since a slice would
+// keep the array lent.
 #[derive(Clone, Copy)]
 pub struct Heard {
     pub event: Event,
@@ -29,7 +30,8 @@ pub struct Opening {
     pub next: usize,
 }
 
-// The place of the first octet c from `at` on, or the length of s, or `at` where that is past the end.
+// The place of the first octet c from `at` on, or the length of s, or `at` where that is past the end. Stays a loop over places, since the
+// place is what is asked for, and `position` counts from the start of a part that may not be there.
 #[tactic(auto, using(crate::proofs::Places::place_past, crate::proofs::Places::place_hit, crate::proofs::Places::place_miss))]
 pub fn place_of(s: &[u8], at: usize, c: u8) -> usize
     ensures { result ≡ place_from c at s.now }
@@ -48,23 +50,6 @@ pub fn next_line(s: &[u8], end: usize) -> usize
     ensures { result ≡ next_from end s.now }
 {
     if end < s.len() { end + 1 } else { end }
-}
-
-// What stands for an unreadable line where an event is wanted: a who of no station, which changes nothing.
-#[tactic(auto, unfolding(crate::specs::Heard::nothing_heard))]
-pub fn unreadable() -> Heard
-    ensures { heard_as false result ≡ nothing_heard }
-{
-    Heard {
-        event: Event {
-            kind: Kind::Who,
-            at: 0,
-            station: [0; 6],
-            sequence: 0,
-            old: None,
-        },
-        context_len: 0,
-    }
 }
 
 // One line of an event, without its 0A.

@@ -4,15 +4,11 @@ use Prim.Native.Nat.{ℕ, ◌+◌, ◌-◌, ◌≤◌}
 use mathlib.Core.Path.{◌≡◌, refl, sym, ap, ◌∙◌}
 use mathlib.Core.List.{List, ◌++◌, append_assoc}
 use native.Mathlib.Omega.{arith}
-use lib.ListN.{length, take, drop, length-append, length-drop, take-append-drop}
+use lib.ListN.{length, take, drop, length-append, length-drop}
 use lib.Seq.{take_at, drop_at, drop-drop, take-add, length-take-le}
 use Rattle.lists.proofs.Copies.{put_back_lem}
 use Rattle.lists.proofs.Fronts.{rest_from}
 use Rattle.script.specs.Put.{over, front}
-
--- the part of l from a on comes back as it was
-pub back : (a : ℕ) (l m : List ℕ) → m ≡ take (length l - a) (drop a l) → take a l ++ (m ++ drop (length l - a) (drop a l)) ≡ l
-back a l m e = put_back_lem a l m ∙ rw (e, rest_from l a) (take-append-drop a l)
 
 -- with the text x at its front
 pub put_over : (a : ℕ) (l x m : List ℕ) → m ≡ front x (take (length l - a) (drop a l)) → take a l ++ (m ++ drop (length l - a) (drop a l)) ≡ over a x l
@@ -56,12 +52,10 @@ module _ (n : ℕ) (t b l : List ℕ) (size : n ≡ length t) (is : l ≡ front 
   pub front_taken : take n l ≡ t
   front_taken = rw (size, is) (take_at t (drop (length t) b) (length t) refl)
 
--- A text n of k octets at the front of the buffer b, and then p: b was lent from k on and came back, n was put into it, and the part from k
--- on came back with p at its front
-module _ (k : ℕ) (n p b m o : List ℕ) (size : length n ≡ k) (room : k + length p ≤ length b) (e : m ≡ take (length b - k) (drop k b))
-    (f : o ≡ over 0 n (take k b ++ (m ++ drop (length b - k) (drop k b)))) where
+-- A text n of k octets at the front of the buffer b, and then p: n was put into it, and the part from k on came back with p at its front
+module _ (k : ℕ) (n p b o : List ℕ) (size : length n ≡ k) (room : k + length p ≤ length b) (f : o ≡ over 0 n b) where
   first_is : o ≡ n ++ drop k b
-  first_is = let z : 0 + length n ≡ k = omega (arith, size) in f ∙ ap (over 0 n) (back k b m e) ∙ rw z
+  first_is = let z : 0 + length n ≡ k = omega (arith, size) in f ∙ rw z
 
   pub room_left : length p ≤ length (take (length o - k) (drop k o))
   room_left =

@@ -10,7 +10,7 @@ use Rattle.lists.proofs.Choices.{by_option}
 use Rattle.machine.specs.Events.{Event}
 use Rattle.network.specs.declared.Network.{Network}
 use Rattle.network.specs.Events.{event_of}
-use Rattle.script.specs.Text.{octets_of, on_first, split, lines}
+use Rattle.script.specs.Text.{on_first, split, lines}
 use Rattle.script.specs.EventLine.{event_in}
 use Rattle.script.specs.Result.{unreadable, kind_of, result_of}
 use Rattle.script.specs.Script.{printed}

@@ -4,11 +4,11 @@ use Prim.Native.Nat.{ℕ, suc, ◌+◌, ◌-◌, ◌≤◌, ◌<◌}
 use mathlib.Core.Path.{◌≡◌, refl, sym, ap, ◌∙◌}
 use mathlib.Core.Bool.{Bool, true, false, cond}
 use mathlib.Core.List.{List, [], ◌∷◌}
-use Rattle.std.specs.Prelude.{Option, None, Some}
+use Rattle.std.specs.Prelude.{Option, None, Some, is_some}
 use native.Mathlib.Omega.{arith}
 use borrow.Author.Tests.{ltb-true, ltb-false, lt-ltb, le-ltb, lt-leb, le-leb}
 use lib.Dec.{eqb, ltb, leb}
-use lib.ListN.{length, drop, length-append}
+use lib.ListN.{length, drop}
 use lib.Seq.{drop-drop}
 use Rattle.lists.specs.Options.{case_option}
 use Rattle.lists.proofs.Choices.{not_both, by_bool}
@@ -18,13 +18,14 @@ use Rattle.network.specs.Events.{valid_network_record}
 use Rattle.network.proofs.Reached.{new_valid}
 use Rattle.floor_link.specs.Answered.{Started, set_up_done}
 use Rattle.script.specs.Put.{front}
-use Rattle.script.specs.Text.{octets_of, on_first, split, lines}
+use Rattle.script.specs.Text.{on_first, split, lines}
 use Rattle.script.specs.SetUpLines.{Values, set_up_in, event_lines}
 use Rattle.script.specs.Result.{result_names}
-use Rattle.script.specs.Script.{printed, played}
+use Rattle.script.specs.Script.{printed}
 use Rattle.script.proofs.Runs.{values_valid}
 use Rattle.script_reader.specs.Heard.{past_line, three_lines, Opening, opening_in, nothing_opened}
-use Rattle.script_runner.specs.Played.{Played, played_into, written_into}
+use Rattle.script_runner.specs.declared.Played.{Played}
+use Rattle.script_runner.specs.Played.{played_as, measured, written_into}
 
 -- t is what is left of s
 pub record Left (s t : List ℕ) : Type 0 where
@@ -109,6 +110,10 @@ module _ (s : List ℕ) (r : Opening) (is : r ≡ opening_in s) where
     unfolding set_up_done
     new_network_lem = ap (λ (y : Started). y.network) u ∙ rw (values_valid s (values_of r) (opened g).0)
 
+    pub accepted : x.answer ≡ 0
+    unfolding set_up_done
+    accepted = ap (λ (y : Started). y.answer) u ∙ rw (values_valid s (values_of r) (opened g).0)
+
     pub network_valid : valid_network_record x.network ≡ true
     network_valid = ap valid_network_record new_network_lem ∙ new_valid r.aps r.timeout r.resends (values_valid s (values_of r) (opened g).0)
 
@@ -129,28 +134,12 @@ pub names_length : length result_names ≡ 38
 unfolding result_names
 names_length = refl
 
--- lines of which what they print fits
-pub played_fits : (w : Network) (ls : List (List ℕ)) (writing : Bool) (b : List ℕ) → length (printed w ls) ≤ length b
-    → played_into w ls writing b ≡ record { fits = true; network = played w ls; len = length (printed w ls); buffer = cond writing (front (printed w ls) b) b }
-unfolding played_into
-played_fits w ls writing b l = rw (le-ltb (length b) (length (printed w ls)) l)
-
--- what was printed is within the buffer
-pub written_within : (w : Network) (ls : List (List ℕ)) (b : List ℕ) (r : Played) → r ≡ played_into w ls true b → length (printed w ls) ≤ length b → r.len ≤ length r.buffer
-written_within w ls b r e l =
-    let q = e ∙ played_fits w ls true b l in
-    let n : r.len ≡ length (printed w ls) = ap (λ (x : Played). x.len) q in
-    let o : length r.buffer ≡ length (front (printed w ls) b) = ap (λ (x : Played). length x.buffer) q in
-    omega (arith, n, o, length-append (printed w ls) (drop (length (printed w ls)) b))
-
--- whether it fits, and the buffer where nothing is written
-pub measured : (w : Network) (ls : List (List ℕ)) (b : List ℕ) → ((played_into w ls false b).fits ≡ leb (length (printed w ls)) (length b)) × ((played_into w ls false b).buffer ≡ b)
-unfolding played_into
-measured w ls b =
-    by_bool (λ (t : Bool). ltb (length b) (length (printed w ls)) ≡ t
-    → ((cond {A = Played} t (record { fits = false; network = w; len = 0; buffer = b }) (record { fits = true; network = played w ls; len = length (printed w ls); buffer = b })).fits ≡ leb (length (printed w ls)) (length b))
-    × ((cond {A = Played} t (record { fits = false; network = w; len = 0; buffer = b }) (record { fits = true; network = played w ls; len = length (printed w ls); buffer = b })).buffer ≡ b))
-    (ltb (length b) (length (printed w ls)))
-    (λ q e. (sym (lt-leb (length (printed w ls)) (length b) (ltb-true (length b) (length (printed w ls)) e)), refl))
-    (λ q e. (sym (le-leb (length (printed w ls)) (length b) (ltb-false (length b) (length (printed w ls)) e)), refl))
+-- whether what the lines print fits
+pub measured_is : (w : Network) (ls : List (List ℕ)) (n : ℕ) → is_some (measured w ls n) ≡ leb (length (printed w ls)) n
+unfolding measured
+measured_is w ls n =
+    by_bool (λ (t : Bool). ltb n (length (printed w ls)) ≡ t → is_some (cond {A = Option Played} t None (Some (played_as w ls))) ≡ leb (length (printed w ls)) n)
+    (ltb n (length (printed w ls)))
+    (λ q e. sym (lt-leb (length (printed w ls)) n (ltb-true n (length (printed w ls)) e)))
+    (λ q e. sym (le-leb (length (printed w ls)) n (ltb-false n (length (printed w ls)) e)))
     refl

@@ -1,36 +1,32 @@
 -- What is printed into a lent buffer: the lines of a script, and a whole script.
-use Rattle.std.specs.Prelude.{ℕ, Bool, true, false, cond, List, ltb, length, Result, Ok, Err}
+use Rattle.std.specs.Prelude.{ℕ, cond, List, ltb, length, Option, None, Some, Result, Ok, Err}
+use Rattle.lists.specs.Options.{case_option}
 use Rattle.answers.specs.declared.Refusal.{Refusal}
 use Rattle.answers.specs.Numbers.{refusal_number}
 use Rattle.network.specs.declared.Network.{Network}
-use Rattle.network.specs.Events.{Line}
-use Rattle.events.specs.declared.Kind.{Kind}
+use Rattle.network.specs.Events.{event_of}
+use Rattle.script.specs.EventLine.{event_in}
 use Rattle.script.specs.Put.{front}
-use Rattle.script.specs.Result.{unreadable, result_as}
+use Rattle.script.specs.Result.{unreadable, result_of}
 use Rattle.script.specs.Script.{output_of, printed, played}
-use Rattle.script_runner.specs.declared.Played as lines
+use Rattle.script_runner.specs.declared.Played.{Played}
 
--- the line that a line prints: an event of this kind that was answered so, or an unreadable one
-abbrev pub text_of : Bool → Kind → Line → List ℕ
-text_of readable k l = cond readable (result_as k l) unreadable
+-- One line on the record w: what it prints, and the record after it
 
--- The lines of events
+abbrev pub text_in : Network → List ℕ → List ℕ
+text_in w l = case_option (event_in l) unreadable (λ e. result_of e (event_of w e).line)
 
-pub record Played : Type 0 where
-  pub fits : Bool
-  pub network : Network
-  pub len : ℕ
-  pub buffer : List ℕ
+abbrev pub after_line : Network → List ℕ → Network
+after_line w l = case_option (event_in l) w (λ e. (event_of w e).network)
 
-abbrev pub played_from : lines.Played → List ℕ → Played
-played_from r b = record { fits = r.fits; network = r.network; len = r.len; buffer = b }
+-- The lines of events on the record w: the record after them, and the length of what they print
 
--- on a record w, into a buffer b or only measured: whether what they print fits; then the record after them, and its length
-unfoldable pub played_into : Network → List (List ℕ) → Bool → List ℕ → Played
-played_into w ls writing b =
-    cond (ltb (length b) (length (printed w ls)))
-    (record { fits = false; network = w; len = 0; buffer = b })
-    (record { fits = true; network = played w ls; len = length (printed w ls); buffer = cond writing (front (printed w ls) b) b })
+abbrev pub played_as : Network → List (List ℕ) → Played
+played_as w ls = record { network = played w ls; len = length (printed w ls) }
+
+-- only where that fits n octets
+unfoldable pub measured : Network → List (List ℕ) → ℕ → Option Played
+measured w ls n = cond (ltb n (length (printed w ls))) None (Some (played_as w ls))
 
 -- A whole script: the answer, the length and the buffer
 

@@ -5,13 +5,23 @@ ghost use Rattle.std.specs.Prelude.{◌≡◌, ◌+◌, ◌≤◌, length};
 ghost use Rattle.script.specs.Put.{over, front};
 ghost use Rattle.script.specs.Fields.{digit};
 ghost use Rattle.script.specs.Result.{unreadable, field, result_as};
-ghost use Rattle.floor_link.specs.Answered.{line_from};
+ghost use Rattle.floor_link.specs.Answered.{line_with, line_from};
 ghost use Rattle.script_writer.specs.Held.{held_text};
 
+use answers::Refusal;
 use events::Kind;
 use floor_link::Line;
 
-// A lent array, of which the first `len` octets are written.
+// What a refused event tells but for its answer: "every other number of the answer 0".
+const NOTHING: Line = Line {
+    sent: 0,
+    given_up: 0,
+    held: 0,
+    tables: 0,
+};
+
+// A lent array, of which the first `len` octets are written. Stays a length beside the array, and puts numbers by hand: `Display` would go
+// through `fmt::Write`, whose errors each caller would have to rule out.
 #[derive(Drop)]
 struct Text<'a> {
     octets: &'a mut [u8; 32],
@@ -75,13 +85,23 @@ fn digit_of(n: u8) -> u8
     b'0' + n % 10
 }
 
+// ANSWER, and what else is told.
+fn numbers(answer: Result<Line, Refusal>) -> (u8, Line)
+    ensures { line_with result.0 result.1 ≡ line_from answer }
+{
+    match answer {
+        Ok(l) => (0, l),
+        Err(r) => (u8::from(r), NOTHING),
+    }
+}
+
 // EVENT ANSWER SENT GIVENUP HELD TABLES, of an event of this kind.
 #[tactic(auto, using(crate::proofs::Short::field_short, crate::proofs::Short::name_short, crate::proofs::Short::text_short))]
-pub fn result(line: &mut [u8; 32], kind: Kind, l: Line) -> usize
-    ensures value { result ≡ length (result_as kind (line_from l)) }
-    ensures line_after { line.new ≡ front (result_as kind (line_from l)) line.old }
+pub fn result(line: &mut [u8; 32], kind: Kind, answer: Result<Line, Refusal>) -> usize
+    ensures value { result ≡ length (result_as kind (line_from answer)) }
+    ensures line_after { line.new ≡ front (result_as kind (line_from answer)) line.old }
 {
-    let n = answers::number(l.answer);
+    let (n, l) = numbers(answer);
     let mut text = Text {
         octets: line,
         len: 0,

@@ -13,7 +13,7 @@ use Rattle.packet.specs.Fields.{Fields}
 use Rattle.writer.specs.Write.{octets_of, Writing, writing_of, write_to}
 use Rattle.machine.specs.Associations.{padded}
 use Rattle.machine.specs.Packets.{fields_as}
-use Rattle.record.proofs.Over.{drop_rep}
+use Rattle.slots.proofs.Over.{drop_rep}
 use Rattle.reader.specs.declared.Received.{Received}
 use Rattle.receiving.specs.declared.Reply.{Reply}
 use Rattle.receiving.specs.declared.Reply.TheVariants.{Successful, StaleMove}

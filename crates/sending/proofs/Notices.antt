@@ -10,17 +10,16 @@ use native.Mathlib.Numerals.{add-one}
 use borrow.Author.Tests.{eq-eqb, ne_eqb}
 use lib.Dec.{eqb}
 use lib.ListN.{length, take, get_or, length-map, length-take}
-use lib.Seq.{length-take-le, take-suc}
+use lib.Seq.{take-suc}
 use Rattle.elements.specs.declared.InFlight.{InFlight}
 use Rattle.elements.specs.declared.Move.{Move}
 use Rattle.machine.specs.Packets.{Packet, Outgoing, carried}
 use Rattle.machine.specs.Moves.{notice_of, notices_of}
 use Rattle.machine.specs.AccessPoint.{add_notifies}
 use Rattle.record.specs.Lens.{named}
-use Rattle.in_flight.specs.declared.Outbox.{Outbox}
-use Rattle.in_flight.specs.Post.{outbox_of}
-use Rattle.sending.specs.Sends.{pushed}
+use Rattle.in_flight.specs.Post.{get_outbox, put_outbox, outbox_of}
 use Rattle.sending.proofs.Outboxes.{outbox_count, outbox_more}
+use Rattle.in_flight.specs.declared.Outbox.{Outbox}
 
 -- the packets of an announcement
 
@@ -81,10 +80,11 @@ module _ (b : ℕ) (p : Packet) (o : Outbox) (i : ℕ) (h : o ≡ outbox_of (ann
   announced_own e = h ∙ ap (λ (l : List Outgoing). outbox_of (map (carried b) l)) (sym (notifies_own b p i e))
 
   -- every other gets a copy
-  pub announced_other : (i ≡ b → ⊥) → i < 8 → (w : InFlight) → w ≡ carried b (record { to = 0; packet = p }) → pushed (sent_to i w) o ≡ outbox_of (announced b p (i + 1))
+  pub announced_other : (i ≡ b → ⊥) → (w : InFlight) → w ≡ carried b (record { to = 0; packet = p })
+      → put_outbox o (get_outbox o ++ (sent_to i w ∷ [])) ≡ outbox_of (announced b p (i + 1))
   unfolding carried
-  announced_other n l w f =
-      outbox_more o (announced b p i) (sent_to i w) h (omega (arith, announced_few, outbox_count o (announced b p i) h))
+  announced_other n w f =
+      outbox_more o (announced b p i) (sent_to i w) h
       ∙ ap (λ (z : InFlight). outbox_of (announced b p i ++ (sent_to i z ∷ []))) f
       ∙ ap outbox_of (sym (map-append (carried b) (add_notifies b p 0 i) (record { to = i; packet = p } ∷ [])))
       ∙ ap (λ (l : List Outgoing). outbox_of (map (carried b) l)) (sym (notifies_other b p i n))
@@ -114,11 +114,11 @@ pub resent_few : (b : ℕ) (ms : List Move) (i : ℕ) (o : Outbox) → o ≡ out
 resent_few b ms i o e = omega (arith, outbox_count o (notices_from b (take i ms)) e, notices_count b (take i ms), length-take i ms)
 
 -- a loop over the moves ms has put the notices of the first i into the outbox o, and puts down the next
-pub resent_more : (b : ℕ) (ms : List Move) (i : ℕ) (o : Outbox) (x : InFlight) (m d : Move) → i < length ms → length ms ≤ 8
+pub resent_more : (b : ℕ) (ms : List Move) (i : ℕ) (o : Outbox) (x : InFlight) (m d : Move) → i < length ms
     → o ≡ outbox_of (notices_from b (take i ms)) → get_or ms i d ≡ m → x ≡ carried b (notice_of (named m))
-    → pushed x o ≡ outbox_of (notices_from b (take (i + 1) ms))
-resent_more b ms i o x m d l h e f g =
+    → put_outbox o (get_outbox o ++ (x ∷ [])) ≡ outbox_of (notices_from b (take (i + 1) ms))
+resent_more b ms i o x m d l e f g =
     let sent : List InFlight = notices_from b (take i ms) in
-    outbox_more o sent x e (omega (arith, notices_count b (take i ms), length-take-le i ms (omega arith)))
+    outbox_more o sent x e
     ∙ ap (λ (z : InFlight). outbox_of (sent ++ (z ∷ []))) (g ∙ ap (λ (m : Move). carried b (notice_of (named m))) (sym f))
     ∙ ap outbox_of (sym (notices_next b ms i d l))

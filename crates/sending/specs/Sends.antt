@@ -1,5 +1,5 @@
 -- The packets that an access point sends of its own accord, and what the writer asks of a packet and of a move's notice.
-use Rattle.std.specs.Prelude.{ℕ, ◌+◌, ◌≤◌, Bool, leb, length, set}
+use Rattle.std.specs.Prelude.{ℕ, ◌≤◌, Bool, leb, length}
 use Rattle.packet.specs.Fields.{Fields}
 use Rattle.writer.specs.Write.{octets_of}
 use Rattle.elements.specs.declared.InFlight.{InFlight}
@@ -7,11 +7,6 @@ use Rattle.elements.specs.declared.Move.{Move}
 use Rattle.machine.specs.Stations.{Station}
 use Rattle.machine.specs.Associations.{padded}
 use Rattle.machine.specs.Packets.{Packet, add_notify, move_notify, Outgoing}
-use Rattle.in_flight.specs.declared.Outbox.{Outbox}
-
--- the packets o and p after them
-abbrev pub pushed : InFlight → Outbox → Outbox
-pushed p o = record { items = set o.items o.count p; count = o.count + 1 }
 
 -- the writer refuses such a packet only for a short buffer
 abbrev pub IsWithin : Fields → Type 0

@@ -1,7 +1,7 @@
 // What an access point sends: its packets written for the way, in order of sending.
 #![tactic(auto)]
 
-ghost use Rattle.std.specs.Prelude.{◌≡◌, true, [], ◌∷◌, map, ◌≤◌, ◌<◌};
+ghost use Rattle.std.specs.Prelude.{◌≡◌, true, [], ◌∷◌, map, ◌≤◌};
 ghost use Rattle.lists.specs.Places.{every};
 ghost use Rattle.packet.specs.Fields.{fields_of};
 ghost use Rattle.machine.specs.Moves.{notices_of};
@@ -11,7 +11,7 @@ ghost use Rattle.moves.specs.Asked.{asked};
 ghost use Rattle.record.specs.Lens.{get_moves, named};
 ghost use Rattle.receiving.specs.Receive.{IsShort, message_in};
 ghost use Rattle.in_flight.specs.Post.{outbox_of};
-ghost use Rattle.sending.specs.Sends.{pushed, IsWithin, sent_as, add_packet, notify_to, sequence_within};
+ghost use Rattle.sending.specs.Sends.{IsWithin, sent_as, add_packet, notify_to, sequence_within};
 
 use elements::InFlight;
 use in_flight::Outbox;
@@ -20,33 +20,13 @@ use reader::Received;
 use receiving::Reply;
 use record::Moves;
 
-// Nothing sent.
-#[tactic(auto, unfolding(in_flight::specs::Post::outbox_of, record::specs::Slots::over))]
-pub fn nothing() -> Outbox
-    ensures { result ≡ outbox_of [] }
-{
-    Outbox {
-        items: [in_flight::blank(); 8],
-        count: 0,
-    }
-}
-
-// One more packet sent, last.
-fn push(out: &mut Outbox, p: InFlight)
-    requires { out.old.count < 8 }
-    ensures { out.new ≡ pushed p out.old }
-{
-    out.items[out.count] = p;
-    out.count += 1;
-}
-
 // One packet sent.
-#[tactic(auto, using(crate::proofs::Outboxes::outbox_none, crate::proofs::Outboxes::outbox_one))]
+#[tactic(auto, using(crate::proofs::Outboxes::outbox_one))]
 pub fn one(p: InFlight) -> Outbox
     ensures { result ≡ outbox_of (p ∷ []) }
 {
-    let mut out = nothing();
-    push(&mut out, p);
+    let mut out = Outbox::none();
+    out.push(p);
     out
 }
 
@@ -92,7 +72,7 @@ pub fn response(from: u8, to: u8, r: Received, reply: Reply) -> InFlight
 }
 
 // The announcement of a station that joined AP `own` of ap_count: one ADD-notify to every other AP, in rising number. All copies have the
-// same octets.
+// same octets. Stays a loop over the APs' numbers: they go into the packets, and no list has them.
 pub fn announce(own: u8, ap_count: u8, identifier: u16, station: [u8; 6], sequence: u16) -> Outbox
     requires { (sequence ≤ 4095) × (ap_count ≤ 8) }
     ensures { result ≡ outbox_of (map (carried own) (add_notifies own (add_packet identifier station sequence) 0 ap_count)) }
@@ -105,10 +85,10 @@ pub fn announce(own: u8, ap_count: u8, identifier: u16, station: [u8; 6], sequen
         sequence,
     };
     let p = send(own, 0, add, &[]);
-    let mut out = nothing();
+    let mut out = Outbox::none();
     for to in 0..ap_count {
         if to != own {
-            push(&mut out, InFlight { to, ..p });
+            out.push(InFlight { to, ..p });
         }
     }
     out
@@ -119,11 +99,10 @@ pub fn resend(own: u8, due: Moves) -> Outbox
     requires { (due.count ≤ 8) × (every sequence_within (get_moves due) ≡ true) }
     ensures { result ≡ outbox_of (map (carried own) (notices_of (map named (get_moves due)))) }
 {
-    let moves = &due.items[..due.count];
-    let mut out = nothing();
-    for m in moves {
+    let mut out = Outbox::none();
+    for m in due.used() {
         let p = move_notify(own, m.old, m.identifier, m.station, m.sequence);
-        push(&mut out, p);
+        out.push(p);
     }
     out
 }

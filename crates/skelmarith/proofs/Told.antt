@@ -7,17 +7,12 @@ use Rattle.packet.specs.declared.Command.{Command}
 use Rattle.packet.specs.declared.Command.TheVariants.{AddNotify, MoveNotify, MoveResponse}
 use Rattle.packet.specs.Fields.{octet_of, fields_of}
 use Rattle.writer.specs.Write.{writing_of, write_to}
-use Rattle.script_runner.specs.Played.{rehearsed_from}
 use Rattle.skelmarith.specs.declared.packets.Written.{Written}
-use Rattle.skelmarith.specs.Packets.{writing_in, Tells, command_of, write_as, rehearsed_in}
+use Rattle.skelmarith.specs.Packets.{writing_in, Tells, command_of, write_as}
 
 pub written_told : (r : Result ℕ Refusal) (w : Written) (b : List ℕ) → Tells r w → writing_in w b ≡ writing_of r b
 written_told (Ok n) w b e = ap (λ (w : Written). writing_in w b) e
 written_told (Err r) w b e = ap (λ (w : Written). writing_in w b) e
-
-pub rehearsed_told : (r : Result ℕ Refusal) (w : Written) (b : List ℕ) → Tells r w → rehearsed_in w b ≡ rehearsed_from r b
-rehearsed_told (Ok n) w b e = ap (λ (w : Written). rehearsed_in w b) e
-rehearsed_told (Err r) w b e = ap (λ (w : Written). rehearsed_in w b) e
 
 module _ (i t : ℕ) (s : List ℕ) (n : ℕ) (x b : List ℕ) where
   pub known : (c : Command) (o : ℕ) → octet_of c ≡ o

@@ -6,7 +6,8 @@ ghost use Rattle.skelmarith.specs.Packets.{reading_in, Tells, writing_in, write_
 use answers::Refusal;
 use packet::{Command, Packet};
 
-// What reading a packet finds, in numbers. The context block is the part of the packet from octet `start` on, of `len` octets.
+// What reading a packet finds, in numbers. The context block is the part of the packet from octet `start` on, of `len` octets. Stays numbers,
+// here and in Written, since C is given them, each number written out; skel_write's command and status stay octets, since C may give any.
 #[repr(C)]
 #[derive(Clone, Copy)]
 pub struct Reading {

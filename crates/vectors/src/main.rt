@@ -23,7 +23,8 @@ fn say(rt: &impl Print, name: &[u8], what: &str) {
     let _ = println!(rt; "{what}");
 }
 
-// Reads a file to its end, or till the buffer is full. Each turn reads an octet at least.
+// Reads a file to its end, or till the buffer is full. Each turn reads an octet at least. Stays a loop: how far the next read goes is what this
+// one gives.
 fn read_all(from: &mut impl Read, into: &mut [u8]) -> io::Result<usize>
     ensures { IfOk result (λ n. n ≤ length into.old) }
 {
@@ -160,7 +161,7 @@ fn check(
     }
 }
 
-// The arguments in order. The first is the program's own name.
+// The arguments in order. The first is the program's own name. Stays a loop over numbers: an argument is asked for by its number.
 fn check_all(
     rt: &(impl Env + Files + Print),
     script: &mut [u8],

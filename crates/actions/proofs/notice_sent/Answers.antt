@@ -8,6 +8,7 @@ use Rattle.machine.specs.Packets.{carried}
 use Rattle.joining.specs.declared.Notice.{Notice}
 use Rattle.joining.specs.Join.{sends_by}
 use Rattle.in_flight.specs.Post.{outbox_of}
+use Rattle.sending.proofs.Outboxes.{outbox_none}
 use Rattle.actions.proofs.notice_sent.Goals as goal
 
 -- what a notice sends, where the notice is known
@@ -16,7 +17,7 @@ sends own k n s x y e = ap (λ (z : Notice). outbox_of (map (carried own) (sends
 
 pub returns-in-Silent : goal.returns-in-Silent
 returns-in-Silent c =
-    c.nothing.ensures ∙ sends c.args.own c.args.ap_count c.args.sequence c.args.station c.args.notice _ c.in-Silent.is
+    c.none.ensures ∙ outbox_none ∙ sends c.args.own c.args.ap_count c.args.sequence c.args.station c.args.notice _ c.in-Silent.is
 
 pub returns-in-Announce : goal.returns-in-Announce
 returns-in-Announce c =

@@ -7,6 +7,7 @@ use Rattle.reader.specs.Read.{Reading, reading_of, read_of}
 use Rattle.reader.proofs.Steps.{answered, within, start_limit, part_is, part_length, accepted_limits}
 use Rattle.machine.specs.Packets.{readable, octets_in}
 use Rattle.excerpt.specs.Excerpts.{put_back, Seen}
+use Rattle.sending.proofs.Outboxes.{outbox_none}
 use Rattle.actions.proofs.Laws.{receive_none, receive_silent, receive_answered}
 use Rattle.actions.proofs.receive.Goals as goal
 use Rattle.actions.proofs.receive.Goals.{in-Some, in-None}
@@ -17,7 +18,7 @@ unfolding readable
 accepted p h = eqb-true _ 0 h
 
 pub returns-then-count-at : goal.returns-then-count-at
-returns-then-count-at c = c.unchanged.ensures ∙ receive_none c.args.at c.args.count c.args.p c.args.a c.if-count-at.true
+returns-then-count-at c = receive_none c.args.at c.args.count c.args.p c.args.a c.if-count-at.true
 
 pub fields-r-requires : goal.fields-r-requires
 unfolding octets_in
@@ -72,5 +73,5 @@ returns c =
           (receive_answered c.args.at c.args.count p a c.if-count-at.false r _ e part (put_back a h.result.after) h.result.reply (h.ensures.result_value a seen) w.in-Some.reply w.in-Some.is w.response.result w.response.ensures w.one-sent.result w.one-sent.ensures)
       | in-None w ↦
           rw w.sent-is
-          (receive_silent c.args.at c.args.count p a c.if-count-at.false r _ e part (put_back a h.result.after) h.result.reply (h.ensures.result_value a seen) w.in-None.is w.nothing-sent.result w.nothing-sent.ensures)
+          (receive_silent c.args.at c.args.count p a c.if-count-at.false r _ e part (put_back a h.result.after) h.result.reply (h.ensures.result_value a seen) w.in-None.is w.none-sent.result (w.none-sent.ensures ∙ outbox_none))
     ])

@@ -7,14 +7,14 @@ use Rattle.record.specs.Lens.{get_moves}
 use Rattle.access_point.specs.declared.Ticking.{Ticking}
 use Rattle.access_point.proofs.Ticks.{due_few}
 use Rattle.access_point.specs.Tick.{tick_done}
-use Rattle.in_flight.specs.declared.Outbox.{Outbox}
 use Rattle.sending.specs.Sends.{sequence_within}
 use Rattle.actions.proofs.Laws.{tick_off, due_within, tick_done_lem}
 use Rattle.actions.proofs.tick.Goals as goal
+use Rattle.in_flight.specs.declared.Outbox.{Outbox}
 
 pub returns-then-ap_count-at : goal.returns-then-ap_count-at
 returns-then-ap_count-at c =
-    c.unchanged.ensures ∙ tick_off c.args.at c.args.ap_count c.args.timeout c.args.a c.if-ap_count-at.true
+    tick_off c.args.at c.args.ap_count c.args.timeout c.args.a c.if-ap_count-at.true
 
 pub resend-requires : goal.resend-requires
 unfolding tick_done

@@ -12,14 +12,14 @@ use Rattle.record.specs.declared.LoneAccessPoint.{LoneAccessPoint}
 use Rattle.record.specs.Valid.{valid_lone_record}
 use Rattle.access_point.proofs.Outsides.{usable}
 use Rattle.actions.specs.Done.{Done, joining_of, join_of}
-use Rattle.alone.specs.declared.Reply.{Reply}
-use Rattle.alone.specs.Told.{told_of, old_named, join_alone}
-use Rattle.alone.specs.Front.{Posted, posted_of, posted_into}
-use Rattle.alone.proofs.Sizes.{join_sends}
+use Rattle.alone.specs.declared.Outcome.{Outcome}
+use Rattle.alone.specs.Told.{told_of, reply_with, old_named, join_alone}
+use Rattle.alone.specs.Front.{Posted, posted_of, posted_into, tell}
+use Rattle.alone.proofs.Sizes.{decided_sends}
 use Rattle.alone.proofs.Within.{few_points, seen}
 use native.Mathlib.Omega.{arith}
 use Rattle.answers.proofs.Numbers.{refusal_above}
-use Rattle.alone.proofs.Acts.{tell, tell_done, tell_refused, not_valid, join_told, posted_refused}
+use Rattle.alone.proofs.Acts.{tell_done, tell_refused, not_valid, join_told, posted_refused}
 use Rattle.alone.proofs.join.Goals as goal
 
 -- what is told of it
@@ -31,7 +31,7 @@ told l v s n old c b d e p f = ap (tell l d) f ∙ join_told l v s n old c b d e
 pub returns-then-not-valid_lone : goal.returns-then-not-valid_lone
 unfolding join_alone
 returns-then-not-valid_lone c =
-    ap (λ (r : Reply). told_of (record { lone = c.args.lone; reply = r }) c.args.buffer.now) c.reply_with.ensures
+    ap (λ (o : Outcome). told_of o c.args.buffer.now) c.answered.ensures
     ∙ not_valid c.args.lone _ _ c.args.buffer.now (sym c.valid_lone.ensures ∙ c.if-not-valid_lone.true)
 
 pub of-x-requires : goal.of-x-requires
@@ -45,7 +45,7 @@ unfolding join_of
 post_joined-reply-requires c =
     let l = c.args.lone in
     let v : valid_lone_record l ≡ true = sym c.valid_lone.ensures ∙ c.if-not-valid_lone.false in
-    join_sends _ _ _ _ _ (ap (λ (d : Done). d.sent) (c.in-Ok.ensures.result_value l.point (seen l v _ c.well_formed.0.1.1.0 c.args.station.now c.of-x.result c.of-x.ensures)))
+    decided_sends _ _ _ _ _ (ap (λ (d : Done). d.sent) (c.in-Ok.ensures.result_value l.point (seen l v _ c.well_formed.0.1.1.0 c.args.station.now c.of-x.result c.of-x.ensures)))
 
 pub put_back-lone-requires : goal.put_back-lone-requires
 put_back-lone-requires c =
@@ -62,11 +62,11 @@ returns-in-Err c =
     let j : d ≡ join_of l.number l.ap_count l.timeout l.resend_limit a.station.now a.sequence (old_named a.old) a.context.now l.point =
     c.in-Err.ensures.result_value l.point (seen l v _ c.well_formed.0.1.1.0 a.station.now c.of-x.result c.of-x.ensures)
     ∙ ap (λ (o : Option ℕ). join_of l.number l.ap_count l.timeout l.resend_limit a.station.now a.sequence o a.context.now l.point) c.old_named.ensures in
-    let q : Posted = posted_of c.reply_with-in-Err.result a.buffer.now in
-    let e = ap (λ (r : Reply). r.answer) c.reply_with-in-Err.ensures in
-    tell_refused l d q (λ z. omega (arith, z, e, refusal_above c.in-Err.r))
-    ∙ told l v a.station.now a.sequence (old_named a.old) a.context.now a.buffer.now d j q
-    (ap (λ (r : Reply). posted_of r a.buffer.now) c.reply_with-in-Err.ensures ∙ posted_refused d.answer d.sent d.given_up a.buffer.now (λ z. omega (arith, z, refusal_above c.in-Err.r)))
+    let q : Posted = posted_of (reply_with d.answer) a.buffer.now in
+    let n : d.answer ≡ 0 → ⊥ = λ z. omega (arith, z, refusal_above c.in-Err.r) in
+    ap (λ (o : Outcome). told_of o a.buffer.now) c.answered-in-Err.ensures
+    ∙ tell_refused l d q n
+    ∙ told l v a.station.now a.sequence (old_named a.old) a.context.now a.buffer.now d j q (posted_refused d.answer d.sent d.given_up a.buffer.now n)
 
 pub returns-then-reply-eq0 : goal.returns-then-reply-eq0
 returns-then-reply-eq0 c =

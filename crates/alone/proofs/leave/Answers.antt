@@ -5,9 +5,7 @@ use mathlib.Core.Bool.{true}
 use mathlib.Core.List.{[]}
 use Rattle.record.specs.Valid.{valid_lone_record}
 use Rattle.excerpt.specs.Excerpts.{Seen}
-use Rattle.access_point.specs.Outside.{with_record}
 use Rattle.access_point.proofs.Outsides.{usable}
-use Rattle.alone.specs.declared.Reply.{Reply}
 use Rattle.alone.specs.Told.{Told, leave_alone}
 use Rattle.alone.proofs.Acts.{not_valid, leave_group, leave_told}
 use Rattle.alone.proofs.Within.{seen}
@@ -17,25 +15,25 @@ pub returns-then-not-valid_lone : goal.returns-then-not-valid_lone
 unfolding leave_alone
 returns-then-not-valid_lone c =
     let l = c.args.lone in
-    ap (λ (r : Reply). record { lone = l; reply = r }) c.reply_with.ensures
+    c.answered.ensures
     ∙ ap (λ (t : Told). t.outcome) (not_valid l _ _ [] (sym c.valid_lone.ensures ∙ c.if-not-valid_lone.true))
 
 pub returns-then-is_group : goal.returns-then-is_group
 returns-then-is_group c =
-    ap (λ (r : Reply). record { lone = c.args.lone; reply = r }) c.reply_with-then-is_group.ensures
+    c.answered-then-is_group.ensures
     ∙ leave_group c.args.lone c.args.station.now (sym c.valid_lone.ensures ∙ c.if-not-valid_lone.false) (sym c.is_group.ensures ∙ c.if-is_group.true)
 
-pub of-x-requires : goal.of-x-requires
-of-x-requires c = (usable c.args.lone (sym c.valid_lone.ensures ∙ c.if-not-valid_lone.false)).associations
+pub of-requires : goal.of-requires
+of-requires c = (usable c.args.lone (sym c.valid_lone.ensures ∙ c.if-not-valid_lone.false)).associations
 
 pub put_back-left-requires : goal.put_back-left-requires
 put_back-left-requires c =
     let v : valid_lone_record c.args.lone ≡ true = sym c.valid_lone.ensures ∙ c.if-not-valid_lone.false in
-    ((usable c.args.lone v).associations, c.leave-y.ensures.allowed _ _ (seen c.args.lone v _ c.well_formed.0.1.1.0 c.args.station.now c.of-x.result c.of-x.ensures))
+    ((usable c.args.lone v).associations, c.leave-y.ensures.allowed _ _ (seen c.args.lone v _ c.well_formed.0.1.1.0 c.args.station.now c.of.result c.of.ensures))
 
 pub returns : goal.returns
 returns c =
     let v : valid_lone_record c.args.lone ≡ true = sym c.valid_lone.ensures ∙ c.if-not-valid_lone.false in
-    let q : Seen c.args.station.now c.args.lone.point c.of-x.result = seen c.args.lone v _ c.well_formed.0.1.1.0 c.args.station.now c.of-x.result c.of-x.ensures in
-    ap (λ (r : Reply). record { lone = with_record c.put_back-left.result c.args.lone; reply = r }) c.reply_with-2.ensures
+    let q : Seen c.args.station.now c.args.lone.point c.of.result = seen c.args.lone v _ c.well_formed.0.1.1.0 c.args.station.now c.of.result c.of.ensures in
+    c.answered-2.ensures
     ∙ leave_told c.args.lone c.args.station.now v (sym c.is_group.ensures ∙ c.if-is_group.false) c.put_back-left.result (c.put_back-left.ensures ∙ c.leave-y.ensures.result_value _ _ q)

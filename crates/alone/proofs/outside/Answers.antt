@@ -40,5 +40,5 @@ returns-after-r-gt0 c =
 pub returns-in-Err : goal.returns-in-Err
 returns-in-Err c =
     let a = c.args in
-    rw c.reply_with.ensures
+    rw c.answered.ensures
     (told a.lone a.from a.packet.now a.buffer.now _ c.well_formed.0.1.1.0 (refused_with (refusal_number c.in-Err.refusal) a.lone c.outside.new.buffer) c.in-Err.ensures)

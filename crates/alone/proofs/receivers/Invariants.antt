@@ -1,6 +1,5 @@
 -- `alone::receivers` meets its contract. The loop's invariant: the first i receivers are in their places.
 -- Assumes nothing.
-use Prim.Native.Nat.{◌≤◌, ◌-◌}
 use mathlib.Core.Path.{◌≡◌}
 use mathlib.Core.List.{map}
 use lib.ListN.{take}
@@ -9,7 +8,4 @@ use Rattle.alone.specs.Front.{receiver}
 use Rattle.alone.proofs.receivers.Given as goal
 
 abbrev pub invariant-loop-i : goal.invariant-loop-i
-invariant-loop-i l = (l.i ≤ l.n) × (l.to ≡ padded 8 (map receiver (take l.i (take l.n l.sent.items))))
-
-abbrev pub decreases-loop-i : goal.decreases-loop-i
-decreases-loop-i l = l.n - l.i
+invariant-loop-i l = l.to ≡ padded 8 (map receiver (take l.i l.p-items))

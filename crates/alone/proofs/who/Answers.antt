@@ -13,12 +13,12 @@ use Rattle.alone.proofs.who.Goals as goal
 
 pub returns-then-not-valid_lone : goal.returns-then-not-valid_lone
 returns-then-not-valid_lone c =
-    ap (λ (r : Reply). record { lone = c.args.lone; reply = r }) c.reply_with.ensures
+    c.answered.ensures
     ∙ who_invalid c.args.lone c.args.station.now (sym c.valid_lone.ensures ∙ c.if-not-valid_lone.true)
 
 pub returns-then-group : goal.returns-then-group
 returns-then-group c =
-    ap (λ (r : Reply). record { lone = c.args.lone; reply = r }) c.reply_with-then-group.ensures
+    c.answered-then-group.ensures
     ∙ who_group c.args.lone c.args.station.now (sym c.valid_lone.ensures ∙ c.if-not-valid_lone.false) (sym c.is_group-group.ensures ∙ c.if-group.true)
 
 pub find-requires : goal.find-requires

@@ -1,75 +1,46 @@
--- `alone::write_all` meets its contract. The loop's invariant: the first i packets, `at` octets of them, stand at the front of the buffer.
+-- `alone::write_all` meets its contract. The loop's invariant: the first packets, `at` octets, stand at the front of the buffer.
 -- Assumes nothing.
-use Prim.Native.Nat.{ℕ, ◌≤◌, ◌<◌, ◌+◌, ◌-◌}
-use mathlib.Core.Path.{refl, sym, ◌∙◌}
-use mathlib.Core.List.{List}
-use native.Mathlib.Omega.{arith}
-use lib.ListN.{length, take, drop, get_or, length-drop, length-take}
-use lib.Seq.{length-take-le}
+use Rattle.std.proofs.Common.{◌≡◌, ℕ, ◌≤◌, List, length, get_or, take, sym, ap, ◌∙◌, arith, length-drop, length-take}
+use lib.Seq.{take_all}
+use Rattle.lists.specs.Places.{All}
 use Rattle.machine.specs.Packets.{octets_in}
-use Rattle.machine.proofs.Wire.{take_short}
-use Rattle.in_flight.specs.declared.Outbox.{Outbox}
-use Rattle.in_flight.specs.Post.{get_outbox}
-use Rattle.in_flight.proofs.Slots.{past}
-use Rattle.alone.specs.Front.{octets_in_all, outbox_octets, Sized, Packed}
-use Rattle.alone.proofs.Packets.{Passed, passed_none, passed_more, passed_all, packet_sized, written_more, front_all}
+use Rattle.in_flight.proofs.Posted.{past}
+use Rattle.alone.specs.Told.{front_of}
+use Rattle.alone.specs.Front.{octets_in_all, outbox_octets, Sized}
+use Rattle.alone.proofs.Packets.{next_sized, next_length, next_room, octets_next, front_next}
 use Rattle.alone.proofs.write_all.Goals as goal
 
-module _ (o : Outbox) (h : Packed o) (k i : ℕ) (p : Passed o.count o.items k i) (l : i < o.count) where
-  -- the packet that is copied, and its place
-  sized : Sized (get_or o.items i past)
-  unfolding get_outbox
-  sized = packet_sized o.count o.items (omega (arith, h.count, h.slots)) h.sizes k i p l
-
-  more : Passed o.count o.items (k + (get_or o.items i past).len) (i + 1)
-  unfolding get_outbox
-  more = passed_more o.count o.items (omega (arith, h.count, h.slots)) h.sizes k i p l
-
-  -- what is to be written fits the buffer
-  room : (b : List ℕ) → length (outbox_octets o) ≤ length b → k + (get_or o.items i past).len ≤ length b
-  unfolding outbox_octets get_outbox
-  room b f = omega (arith, more.within, f)
-
-pub loop-i-init : goal.loop-i-init
-loop-i-init c = (passed_none _ _, refl)
-
-pub slice_bounds-octets-end : goal.slice_bounds-octets-end
-slice_bounds-octets-end c =
-    let z : Sized (get_or c.args.sent.items c.loop-i.i past) = sized c.args.sent c.requires.packed c.loop-i.at c.loop-i.i c.loop-i.invariant.0 c.loop-i-test.true in
-    omega (arith, z.used, z.slots)
-
-pub slice_bounds-copy-end : goal.slice_bounds-copy-end
-slice_bounds-copy-end c =
-    let z : Sized (get_or c.args.sent.items c.loop-i.i past) = sized c.args.sent c.requires.packed c.loop-i.at c.loop-i.i c.loop-i.invariant.0 c.loop-i-test.true in
-    let p = get_or c.args.sent.items c.loop-i.i past in
-    sym (length-take-le p.len p.octets (omega (arith, z.used, z.slots)))
+pub shared_ref_as_front-copy : goal.shared_ref_as_front-copy
+shared_ref_as_front-copy c =
+    let ps = c.used-p-items.result.now in
+    let sizes : All Sized ps = rw c.used-p-items.ensures.elements c.requires.packed.sizes in
+    (next_sized ps c.loop-p.p-index past c.loop-p-test.true sizes).used
 
 pub copy-requires : goal.copy-requires
+unfolding outbox_octets
 copy-requires c =
-    let l = c.loop-i in
-    let p = get_or c.args.sent.items l.i past in
-    let r : l.at + p.len ≤ length c.args.buffer.now = room c.args.sent c.requires.packed l.at l.i l.invariant.0 c.loop-i-test.true c.args.buffer.now c.requires.sent_in_bounds in
-    omega (arith, r, l.auto.buffer, take_short p.len p.octets, length-take (length l.buffer - l.at) (drop l.at l.buffer), length-drop l.at l.buffer)
+    let ps = c.used-p-items.result.now in
+    let l = c.loop-p in
+    let sizes : All Sized ps = rw c.used-p-items.ensures.elements c.requires.packed.sizes in
+    let room : length (octets_in_all ps) ≤ length c.args.buffer.now = rw c.used-p-items.ensures.elements c.requires.sent_in_bounds in
+    simp (length-take, length-drop)
+    (omega (arith, next_room ps l.p-index past c.loop-p-test.true sizes, l.invariant.0, l.auto.buffer))
 
-pub overflow_add-at : goal.overflow_add-at
-overflow_add-at c =
-    let m : Passed c.args.sent.count c.args.sent.items (c.loop-i.at + (get_or c.args.sent.items c.loop-i.i past).len) (c.loop-i.i + 1) = more c.args.sent c.requires.packed c.loop-i.at c.loop-i.i c.loop-i.invariant.0 c.loop-i-test.true in
-    omega (arith, m.few, m.count, c.requires.packed.count)
-
-pub loop-i-preserved : goal.loop-i-preserved
-unfolding octets_in get_outbox
-loop-i-preserved c =
-    let o = c.args.sent in
-    let h = c.requires.packed in
-    let l = c.loop-i in (
-      more o h l.at l.i l.invariant.0 c.loop-i-test.true,
-      written_more o.count o.items (omega (arith, h.count, h.slots)) h.sizes l.at l.i l.invariant.0 c.loop-i-test.true c.args.buffer.now l.buffer c.copy.new.to l.invariant.1 c.copy.ensures,
+pub loop-p-preserved : goal.loop-p-preserved
+unfolding octets_in
+loop-p-preserved c =
+    let ps = c.used-p-items.result.now in
+    let l = c.loop-p in
+    let i = l.p-index in
+    let sizes : All Sized ps = rw c.used-p-items.ensures.elements c.requires.packed.sizes in (
+      omega (arith, next_length ps i past c.loop-p-test.true sizes, l.invariant.0),
+      front_next (octets_in_all (take i ps)) (octets_in (get_or ps i past)) c.args.buffer.now l.buffer c.copy.new.to l.at l.invariant.0 l.invariant.1 c.copy.ensures
+          ∙ ap (λ (t : List ℕ). front_of t c.args.buffer.now) (sym (octets_next ps i past c.loop-p-test.true)),
     )
 
 pub returns : goal.returns
-unfolding outbox_octets get_outbox
+unfolding outbox_octets
 returns c =
-    let o = c.args.sent in
-    let h = c.requires.packed in
-    c.loop-i.invariant.1
-    ∙ front_all c.loop-i.at (octets_in_all (take o.count o.items)) c.args.buffer.now (passed_all o.count o.items (omega (arith, h.count, h.slots)) h.sizes c.loop-i.at c.loop-i.i c.loop-i.invariant.0 c.loop-i-test.false)
+    let ps = c.used-p-items.result.now in
+    let e : take c.loop-p.p-index ps ≡ ps = take_all c.loop-p.p-index ps (omega arith) in
+    c.loop-p.invariant.1 ∙ rw (e, c.used-p-items.ensures.elements)

@@ -1,7 +1,6 @@
 -- `floor_link::event` meets its contract: 14, or the machine's step.
 -- Assumes nothing.
-use mathlib.Core.Path.{sym, ap, ◌∙◌}
-use Rattle.network.specs.Events as floor
+use mathlib.Core.Path.{sym, ◌∙◌}
 use Rattle.network.specs.Events.{refused}
 use Rattle.network.proofs.Refusal14.{gets_14}
 use Rattle.network.proofs.Lent.{event_valid}
@@ -11,8 +10,7 @@ use Rattle.floor_link.proofs.event.Goals as goal
 pub returns-then-not-valid : goal.returns-then-not-valid
 unfolding refused
 returns-then-not-valid c =
-    ap (λ (l : floor.Line). record { line = l; network = c.args.network }) c.answer_line.ensures
-    ∙ sym (gets_14 c.args.network (event_from c.args.e c.args.context.now) (sym c.valid.ensures ∙ c.if-not-valid.true))
+    sym (gets_14 c.args.network (event_from c.args.e c.args.context.now) (sym c.valid.ensures ∙ c.if-not-valid.true))
 
 pub perform-requires : goal.perform-requires
 perform-requires c = sym c.valid.ensures ∙ c.if-not-valid.false

@@ -9,7 +9,7 @@ use Rattle.floor_link.proofs.set_up.Goals as goal
 
 pub returns-then-not-valid_setup : goal.returns-then-not-valid_setup
 unfolding set_up_done
-returns-then-not-valid_setup c = rw (sym c.valid_setup.ensures ∙ c.if-not-valid_setup.true, c.new_network.ensures)
+returns-then-not-valid_setup c = rw (sym c.valid_setup.ensures ∙ c.if-not-valid_setup.true)
 
 pub overflow_cast-ap_count : goal.overflow_cast-ap_count
 unfolding valid_setup
@@ -25,4 +25,4 @@ overflow_cast-resend_limit c =
 
 pub returns : goal.returns
 unfolding set_up_done
-returns c = rw (sym c.valid_setup.ensures ∙ c.if-not-valid_setup.false, c.new_network-2.ensures)
+returns c = rw (sym c.valid_setup.ensures ∙ c.if-not-valid_setup.false, c.new_network.ensures)

@@ -1,41 +1,38 @@
 -- `in_flight::post` meets its contract. The loop's invariant: the first i packets are put in flight.
 -- Assumes nothing.
-use Prim.Native.Nat.{◌≤◌, ◌<◌}
-use mathlib.Core.Path.{◌≡◌, sym, ◌∙◌}
+use mathlib.Core.Path.{◌≡◌, sym, ap, ◌∙◌}
+use mathlib.Core.List.{List}
 use native.Mathlib.Omega.{arith}
-use lib.ListN.{length}
-use Rattle.network.specs.Lens.{get_in_flight}
-use Rattle.in_flight.specs.Post.{get_outbox, posted}
+use lib.ListN.{take}
+use lib.Seq.{take_all}
+use Rattle.elements.specs.declared.InFlight.{InFlight}
+use Rattle.network.specs.Lens.{get_in_flight, put_in_flight}
 use Rattle.network.proofs.LensLaws.{in_flight_kept}
-use Rattle.in_flight.proofs.Posted.{put_in, put_out, put_all}
+use Rattle.in_flight.specs.Post.{get_outbox, posted}
+use Rattle.in_flight.proofs.Posted.{put_in, put_out}
 use Rattle.in_flight.proofs.post.Goals as goal
-use Rattle.in_flight.proofs.post.Goals.{then-k-lt64, else-k-lt64}
+use Rattle.in_flight.proofs.post.Goals.{then-t-lt64, else-t-lt64}
 
-pub loop-i-init : goal.loop-i-init
+pub loop-p-init : goal.loop-p-init
 unfolding posted
-loop-i-init c = (omega arith, sym (in_flight_kept c.args.t (omega arith)))
+loop-p-init c = sym (in_flight_kept c.args.t.now (omega arith))
 
-pub loop-i-preserved : goal.loop-i-preserved
-loop-i-preserved c =
-    let t = c.args.t in
-    let u = c.args.sent in
-    let o = c.loop-i.out in
-    let i = c.loop-i.i in
-    let k : i < u.count = omega arith in
-    let e = c.loop-i.invariant.1 in
-    let j : t.count ≤ length t.items = omega arith in
-    let m : length t.items ≡ 64 = omega arith in
-    let g : u.count ≤ length u.items = omega arith in (
-      omega arith,
-      elim c.if-k-lt64.branch [
-        | then-k-lt64 w ↦ w.out-is ∙ put_in t o u.count u.items (get_in_flight t) i g k e j m w.if-k-lt64.true
-        | else-k-lt64 w ↦ w.out-is ∙ put_out t o u.count u.items (get_in_flight t) i g k e w.if-k-lt64.false
-      ],
-    )
+pub loop-p-preserved : goal.loop-p-preserved
+loop-p-preserved c =
+    let t = c.args.t.now in
+    let o = c.loop-p.t in
+    let ps = c.used-p-items.result.now in
+    let i = c.loop-p.p-index in
+    let l = c.loop-p-test.true in
+    let e = c.loop-p.invariant in
+    elim c.if-t-lt64.branch [
+      | then-t-lt64 w ↦ w.t-is ∙ w.push.ensures ∙ put_in t o ps (get_in_flight t) i l e w.if-t-lt64.true
+      | else-t-lt64 w ↦ w.t-is ∙ put_out t o ps (get_in_flight t) i l e w.if-t-lt64.false
+    ]
 
 pub returns : goal.returns
-unfolding get_outbox
 returns c =
-    let u = c.args.sent in
-    let e : c.loop-i.i ≡ u.count = omega arith in
-    c.loop-i.invariant.1 ∙ put_all c.args.t u.count u.items (get_in_flight c.args.t) c.loop-i.i e
+    let t = c.args.t.now in
+    let ps = c.used-p-items.result.now in
+    let all : take c.loop-p.p-index ps ≡ get_outbox c.args.sent.now = take_all c.loop-p.p-index ps (omega arith) ∙ c.used-p-items.ensures.elements in
+    c.loop-p.invariant ∙ ap (λ (xs : List InFlight). put_in_flight t (posted xs (get_in_flight t))) all

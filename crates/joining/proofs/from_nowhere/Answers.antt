@@ -6,11 +6,8 @@ use Rattle.excerpt.specs.Excerpts.{put_back}
 use Rattle.joining.proofs.Laws.{opening, joined_nowhere}
 use Rattle.joining.proofs.from_nowhere.Goals as goal
 
-pub returns : goal.returns
-returns c =
-    let p = c.with_edit-y.ensures in record {
-      result_value = λ a w.
-          ap (λ (y : Excerpt). put_back a (opening y y.moves ((c.args.x.next_identifier + 1) % 2 ^ 16) y.opened)) p
-          ∙ joined_nowhere c.args.station c.args.sequence a c.args.x w c.args.context.now _ _ c.new_association-row.ensures refl;
-      edit_value = (ap (λ (y : Excerpt). y.edit) p, ap (λ (y : Excerpt). y.at) p);
-    }
+pub returns-clause-result_value : goal.returns-clause-result_value
+returns-clause-result_value c =
+    λ a w.
+    ap (λ (y : Excerpt). put_back a (opening y y.moves ((c.args.x.next_identifier + 1) % 2 ^ 16) y.opened)) c.with_edit-y.ensures
+    ∙ joined_nowhere c.args.station c.args.sequence a c.args.x w c.args.context.now _ _ c.new_association-row.ensures refl

@@ -10,5 +10,5 @@ pub returns : goal.returns
 returns c =
     let x = c.args.q.context in
     let l : length x ≡ 65 = omega arith in
-    let e : take c.at_most_65-n.result x ≡ take c.args.q.len x = ap (λ (k : ℕ). take k x) c.at_most_65-n.ensures ∙ cut c.args.q.len x l in
+    let e : take c.min-len.result x ≡ take c.args.q.len x = ap (λ (k : ℕ). take k x) c.min-len.ensures ∙ cut c.args.q.len x l in
     c.in_numbers.ensures ∙ c.event.ensures ∙ ap (λ (d : List ℕ). event_of c.args.network (event_from c.args.q.event d)) e

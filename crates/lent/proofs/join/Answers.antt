@@ -12,6 +12,7 @@ use Rattle.lent.proofs.join.Goals as goal
 pub returns : goal.returns
 returns c =
     let a = c.args in
-    let n = c.at_most_65-n in
-    ap (λ (o : Option ℕ). machine.join a.at a.station.now a.sequence o (take n.result c.copy.new.to)) c.old_named-from.ensures
+    let n = c.min-len in
+    c.join.ensures (take n.result c.copy.new.to)
+    ∙ ap (λ (o : Option ℕ). machine.join a.at a.station.now a.sequence o (take n.result c.copy.new.to)) c.old_named.ensures
     ∙ ap (machine.join a.at a.station.now a.sequence (old_named a.old)) (copied a.context.now (replicate 65 0) c.copy.new.to n.result n.ensures c.copy.ensures)

@@ -1,61 +1,43 @@
 -- `moves::due_of` meets its contract. The loop's invariant: what is put down are those among the first i moves that are sent again.
 -- Assumes nothing.
-use Prim.Native.Nat.{◌≤◌, ◌<◌}
-use mathlib.Core.Path.{◌≡◌, ap, sym, ◌∙◌}
+use mathlib.Core.Path.{◌≡◌, sym, ◌∙◌}
 use native.Mathlib.Omega.{arith}
-use lib.ListN.{length, take}
-use Rattle.record.specs.Slots.{over}
-use Rattle.record.specs.Lens.{get_moves, put_moves}
-use Rattle.moves.specs.Blank.{no_moves}
+use lib.ListN.{take}
+use lib.Seq.{take_all}
+use Rattle.slots.specs.Lists.{over}
+use Rattle.record.specs.Lens.{no_moves}
 use Rattle.moves.specs.Ticks.{is_due, after}
-use Rattle.moves.proofs.Ticking.{picked_due, due_stays, room, put_in, put_out, put_all}
+use Rattle.moves.proofs.Ticking.{picked_due, due_stays, room, put_in, put_out}
 use Rattle.moves.proofs.due_of.Goals.{then-sent_again, else-sent_again}
 use Rattle.moves.proofs.due_of.Goals as goal
 
-pub loop-i-init : goal.loop-i-init
-unfolding no_moves put_moves over
-loop-i-init c = (omega arith, c.none-out.ensures)
+pub loop-m-init : goal.loop-m-init
+unfolding over
+loop-m-init c = c.none-out.ensures
 
-pub after_tick-next-requires : goal.after_tick-next-requires
-after_tick-next-requires c = due_stays _ (sym c.sent_again.ensures ∙ c.if-sent_again.true)
+pub after_tick-requires : goal.after_tick-requires
+after_tick-requires c = due_stays _ (sym c.sent_again.ensures ∙ c.if-sent_again.true)
 
-pub offset_bounds-out-d : goal.offset_bounds-out-d
-offset_bounds-out-d c =
-    let enough : c.args.t.count ≤ length c.args.t.items = omega (arith, c.well_formed.0.1.1.0.1.0.1) in
-    let l = room is_due (after c.args.timeout) no_moves c.loop-i.out c.args.t.count c.args.t.items c.loop-i.i enough (omega arith) c.loop-i.invariant.1 in
-    omega arith
+pub push-requires : goal.push-requires
+push-requires c =
+    let ms = c.used-m-items.result.now in
+    omega (arith, room is_due (after c.args.timeout) no_moves c.loop-m.out ms c.loop-m.m-index c.loop-m-test.true c.loop-m.invariant, c.used-m-items.ensures.len)
 
-pub bounds-out-d : goal.bounds-out-d
-bounds-out-d c =
-    let enough : c.args.t.count ≤ length c.args.t.items = omega (arith, c.well_formed.0.1.1.0.1.0.1) in
-    let l = room is_due (after c.args.timeout) no_moves c.loop-i.out c.args.t.count c.args.t.items c.loop-i.i enough (omega arith) c.loop-i.invariant.1 in
-    omega arith
-
-pub overflow_add-out : goal.overflow_add-out
-overflow_add-out c =
-    let enough : c.args.t.count ≤ length c.args.t.items = omega (arith, c.well_formed.0.1.1.0.1.0.1) in
-    let l = room is_due (after c.args.timeout) no_moves c.loop-i.out c.args.t.count c.args.t.items c.loop-i.i enough (omega arith) c.loop-i.invariant.1 in
-    omega arith
-
-pub loop-i-preserved : goal.loop-i-preserved
-unfolding no_moves
-loop-i-preserved c =
-    let t = c.args.t in
-    let enough : t.count ≤ length t.items = omega (arith, c.well_formed.0.1.1.0.1.0.1) in
-    let o = c.loop-i.out in
-    let i = c.loop-i.i in
+pub loop-m-preserved : goal.loop-m-preserved
+loop-m-preserved c =
+    let ms = c.used-m-items.result.now in
+    let i = c.loop-m.m-index in
     let a = after c.args.timeout in
-    let k : i < t.count = omega arith in
-    let e = c.loop-i.invariant.1 in (
-      omega arith,
-      elim c.if-sent_again.branch [ then-sent_again w ↦ w.out-is ∙ rw w.after_tick-next.ensures (put_in is_due a no_moves o t.count t.items i enough k e (omega arith) (omega arith) (sym c.sent_again.ensures ∙ w.if-sent_again.true)) | else-sent_again w ↦ w.out-is ∙ put_out is_due a no_moves o t.count t.items i enough k e (sym c.sent_again.ensures ∙ w.if-sent_again.false) ],
-    )
+    let l = c.loop-m-test.true in
+    let e = c.loop-m.invariant in
+    elim c.if-sent_again.branch [
+      | then-sent_again w ↦ w.out-is ∙ w.push.ensures ∙ rw w.after_tick.ensures (put_in is_due a no_moves c.loop-m.out ms i l e (sym c.sent_again.ensures ∙ w.if-sent_again.true))
+      | else-sent_again w ↦ w.out-is ∙ put_out is_due a no_moves c.loop-m.out ms i l e (sym c.sent_again.ensures ∙ w.if-sent_again.false)
+    ]
 
 pub returns : goal.returns
-unfolding get_moves
 returns c =
-    let t = c.args.t in
-    let e : c.loop-i.i ≡ t.count = omega arith in
-    c.loop-i.invariant.1
-    ∙ put_all is_due (after c.args.timeout) no_moves t.count t.items c.loop-i.i e
-    ∙ ap (put_moves no_moves) (picked_due c.args.timeout (take t.count t.items))
+    let ms = c.used-m-items.result.now in
+    let e : take c.loop-m.m-index ms ≡ ms = take_all c.loop-m.m-index ms (omega arith) in
+    c.loop-m.invariant
+    ∙ rw (e, picked_due c.args.timeout ms, c.used-m-items.ensures.elements)

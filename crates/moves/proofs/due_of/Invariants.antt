@@ -1,16 +1,12 @@
--- `moves::due_of` meets its contract. The loop's invariant: what is put down are those among the first i moves that are sent again.
+-- The loop's invariant: what is put down are those among the first i moves that stay open.
 -- Assumes nothing.
-use Prim.Native.Nat.{◌≤◌, ◌-◌}
 use mathlib.Core.Path.{◌≡◌}
 use lib.ListN.{take}
 use Rattle.record.specs.Lens.{put_moves}
-use Rattle.moves.specs.Blank.{no_moves}
 use Rattle.moves.specs.Ticks.{is_due, after}
+use Rattle.record.specs.Lens.{no_moves}
 use Rattle.moves.proofs.Ticking.{picked}
 use Rattle.moves.proofs.due_of.Given as goal
 
-abbrev pub invariant-loop-i : goal.invariant-loop-i
-invariant-loop-i l = (l.i ≤ l.n) × (l.out ≡ put_moves no_moves (picked is_due (after l.timeout) (take l.i (take l.n l.t.items))))
-
-abbrev pub decreases-loop-i : goal.decreases-loop-i
-decreases-loop-i l = l.n - l.i
+abbrev pub invariant-loop-m : goal.invariant-loop-m
+invariant-loop-m l = l.out ≡ put_moves no_moves (picked is_due (after l.timeout) (take l.m-index l.m-items))

@@ -2,7 +2,6 @@
 -- Assumes nothing.
 use mathlib.Core.Path.{refl}
 use mathlib.Core.List.{◌++◌}
-use Rattle.script.specs.Text.{octets_of}
 use Rattle.script.specs.Result.{result_names, bad_set_up}
 use Rattle.script_runner.proofs.Whole.{refused_is, written_is}
 use Rattle.script_runner.proofs.refuse.Goals as goal

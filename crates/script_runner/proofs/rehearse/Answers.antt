@@ -3,7 +3,7 @@
 use Prim.Native.Nat.{ℕ, ◌≤◌}
 use mathlib.Core.Path.{◌≡◌, refl, sym, ap, ◌∙◌}
 use mathlib.Core.List.{List, ◌++◌}
-use Rattle.std.specs.Prelude.{Some}
+use Rattle.std.specs.Prelude.{Some, Ok, Err}
 use lib.ListN.{length, drop}
 use Rattle.lists.proofs.Fronts.{rest_from}
 use Rattle.network.specs.declared.Network.{Network}
@@ -16,7 +16,9 @@ use Rattle.script.specs.Script.{printed, output_of}
 use Rattle.script.proofs.Runs.{output_is, output_bad, script_claim}
 use Rattle.script_reader.specs.Heard.{three_lines, Opening, opening_from, nothing_opened}
 use Rattle.script_runner.specs.Played.{written_into}
-use Rattle.script_runner.proofs.Whole.{values_of, opened_bad, opened, new_network_lem, network_valid, next_there, lines_after}
+use Rattle.script_runner.proofs.Whole.{values_of, opened_bad, opened, accepted, new_network_lem, network_valid, next_there, lines_after}
+use native.Mathlib.Omega.{arith}
+use Rattle.answers.proofs.Numbers.{refusal_above}
 use Rattle.script_runner.proofs.rehearse.Goals as goal
 
 pub returns-in_default : goal.returns-in_default
@@ -28,14 +30,20 @@ returns-in_default c =
       script_claim = script_claim c.args.script.now;
     }
 
+-- the set-up that was read is one that is accepted
+pub returns-in_default-set_up : goal.returns-in_default-set_up
+returns-in_default-set_up c =
+    let e = accepted c.args.script.now (opening_from (Some c.in-Some.o)) c.in-Some.ensures refl (set_up_of (Err c.in_default-set_up.field-0)) c.in_default-set_up.ensures in
+    absurd (omega (arith, e, refusal_above c.in_default-set_up.field-0))
+
 pub slice_bounds-print_all-count : goal.slice_bounds-print_all-count
-slice_bounds-print_all-count c = next_there c.args.script.now (opening_from (Some c.in-Some.o)) c.in-Some.ensures refl (set_up_of c.set_up-x.result) c.set_up-x.ensures
+slice_bounds-print_all-count c = next_there c.args.script.now (opening_from (Some c.in-Some.o)) c.in-Some.ensures refl (set_up_of (Ok c.in-Ok.network)) c.in-Ok.ensures
 
 pub slice_bounds-print_all-start : goal.slice_bounds-print_all-start
-slice_bounds-print_all-start c = let h : c.in-Some.o.next ≤ length c.args.script.now = next_there c.args.script.now (opening_from (Some c.in-Some.o)) c.in-Some.ensures refl (set_up_of c.set_up-x.result) c.set_up-x.ensures in h
+slice_bounds-print_all-start c = let h : c.in-Some.o.next ≤ length c.args.script.now = next_there c.args.script.now (opening_from (Some c.in-Some.o)) c.in-Some.ensures refl (set_up_of (Ok c.in-Ok.network)) c.in-Ok.ensures in h
 
 pub print_all-requires : goal.print_all-requires
-print_all-requires c = network_valid c.args.script.now (opening_from (Some c.in-Some.o)) c.in-Some.ensures refl (set_up_of c.set_up-x.result) c.set_up-x.ensures
+print_all-requires c = network_valid c.args.script.now (opening_from (Some c.in-Some.o)) c.in-Some.ensures refl (set_up_of (Ok c.in-Ok.network)) c.in-Ok.ensures
 
 -- the text of the lines after the set-up is the script's output
 output : (s l : List ℕ) (x : Opening) (w : Network) → (set_up_in (lines s) ≡ Some (values_of x)) × (x.next ≡ three_lines s)
@@ -54,6 +62,6 @@ returns c =
       out_after =
           c.print_all.ensures
           ∙ ap (λ (t : List ℕ). written_into t c.args.out.now)
-          (output s _ x c.set_up-x.result.network (opened s x c.in-Some.ensures refl) (new_network_lem s x c.in-Some.ensures refl (set_up_of c.set_up-x.result) c.set_up-x.ensures) (rest_from s _));
+          (output s _ x c.in-Ok.network (opened s x c.in-Some.ensures refl) (new_network_lem s x c.in-Some.ensures refl (set_up_of (Ok c.in-Ok.network)) c.in-Ok.ensures) (rest_from s _));
       script_claim = script_claim s;
     }

@@ -5,13 +5,14 @@ use Rattle.machine.specs.Packets.{fields_as, written, carried}
 use Rattle.machine.specs.AccessPoint.{add_notifies}
 use Rattle.in_flight.specs.Post.{outbox_of}
 use Rattle.sending.specs.Sends.{add_packet}
+use Rattle.sending.proofs.Outboxes.{outbox_none}
 use Rattle.sending.proofs.Notices.{announced, announced_few, announced_own, announced_other}
 use Rattle.sending.proofs.announce.Goals as goal
 use Rattle.sending.proofs.announce.Goals.{then-to-own, else-to-own}
 
 pub loop-to-init : goal.loop-to-init
 unfolding add_notifies
-loop-to-init c = c.nothing-out.ensures
+loop-to-init c = c.none-out.ensures ∙ outbox_none
 
 pub push-requires : goal.push-requires
 push-requires c =
@@ -24,7 +25,7 @@ loop-to-preserved c =
     let i = c.loop-to.to in
     let h = c.loop-to.invariant in
     elim c.if-to-own.branch [
-      | then-to-own w ↦ w.out-is ∙ w.push.ensures ∙ announced_other c.args.own q c.loop-to.out i h w.if-to-own.true (omega (arith, c.requires.1)) c.send-p.result c.send-p.ensures
+      | then-to-own w ↦ w.out-is ∙ w.push.ensures ∙ announced_other c.args.own q c.loop-to.out i h w.if-to-own.true c.send-p.result c.send-p.ensures
       | else-to-own w ↦ w.out-is ∙ announced_own c.args.own q c.loop-to.out i h w.if-to-own.false
     ]
 

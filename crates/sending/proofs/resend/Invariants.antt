@@ -6,4 +6,4 @@ use Rattle.sending.proofs.Notices.{notices_from}
 use Rattle.sending.proofs.resend.Given as goal
 
 abbrev pub invariant-loop-m : goal.invariant-loop-m
-invariant-loop-m l = l.out ≡ outbox_of (notices_from l.own (take l.m-index l.moves))
+invariant-loop-m l = l.out ≡ outbox_of (notices_from l.own (take l.m-index l.m-items))
