@@ -35,7 +35,7 @@ abbrev pub told_line : Result Reply Refusal → floor.Line
 told_line (Ok r) = line_from (Ok r.line)
 told_line (Err e) = line_from (Err e)
 
--- the network after an event on w: "A refused call changes neither record nor buffer"
+-- the network after an event on w. A refusal "changes neither record nor buffer"
 abbrev pub network_after : Network → Result Reply Refusal → Network
 network_after w (Ok r) = r.network
 network_after w (Err e) = w
