@@ -284,8 +284,8 @@ skel_line skel_who(skel_network *net, const uint8_t station[6]);
 
 /*
  * Runs a whole script of the floor rehearsal; its output stands at the front of `out`. Answers: 10. A script with bad set-up is
- * accepted, and its output says 14. 32 octets for each octet of the script and 38 more are always enough; with a shorter buffer
- * that is long enough all the same, the lines are run twice.
+ * accepted, and its output says 14. 32 octets for each octet of the script and 51 more are always enough; with a shorter buffer
+ * that is long enough all the same, the lines may be run twice.
  */
 skel_written skel_rehearse(const uint8_t *script, size_t script_len, uint8_t *out, size_t out_len);
 

@@ -173,7 +173,7 @@ pub fn receive(a: AccessPoint, p: InFlight, at: u16, count: usize) -> Result<Act
         return Err(Refusal::UnknownPacket);
     }
     let octets = &p.octets[..p.len];
-    let r = reader::fields(octets);
+    let r = reader::read(octets).unwrap();
     let end = r.start + r.len;
     let x = excerpt::of(&a, r.station);
     let h = receiving::receive(x, p.from, r, &octets[r.start..end]);

@@ -1,2 +1,1 @@
-pub mod Octets
 pub mod Text

@@ -1,10 +1,7 @@
-// What the case programs share: octets as text, and octets to try.
+// Octets as text.
 #![tactic(auto)]
 
-ghost use Rattle.std.specs.Prelude.{◌≡◌, ◌++◌, drop};
-ghost use Rattle.cases.specs.Octets.{rising_octets};
-
-use std::{array, fmt};
+use std::fmt;
 
 // Octets in hex with small letters, two digits for each, and `-` where there is none.
 #[derive(Clone, Copy)]
@@ -25,20 +22,4 @@ impl fmt::Display for Hex<'_> {
         }
         Ok(())
     }
-}
-
-// N octets, each of them its own place modulo 256: 00, 01, 02 and so on.
-pub fn rising<const N: usize>() -> [u8; N]
-    ensures { result ≡ rising_octets N }
-{
-    array::from_fn(|i| (i % 256) as u8)
-}
-
-// 84 octets: the 18 of `front`, and behind them each its own place: 12, 13, 14 and so on.
-pub fn extended(front: &[u8; 18]) -> [u8; 84]
-    ensures { result ≡ front.now ++ drop 18 (rising_octets 84) }
-{
-    let mut octets = rising();
-    octets[..18].copy_from_slice(front);
-    octets
 }

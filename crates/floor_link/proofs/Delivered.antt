@@ -13,7 +13,7 @@ use Rattle.network.specs.Lens.{new_network}
 use Rattle.network.specs.Events as floor
 use Rattle.network.specs.Events.{event_of, run_of, lines_of}
 use Rattle.network.specs.Clean.{Clean}
-use Rattle.network.specs.Demand.{Demand, answered_of}
+use Rattle.network.specs.Demand.{Demand, networks_of, answered_of}
 use Rattle.network.proofs.Reached.{demand}
 use Rattle.network.proofs.Clean.{clean}
 use Rattle.events.specs.declared.Kind.{Kind}
@@ -24,7 +24,7 @@ use Rattle.floor_link.specs.declared.Reply.{Reply}
 use Rattle.std.specs.Prelude.{Result}
 use Rattle.answers.specs.declared.Refusal.{Refusal}
 use Rattle.floor_link.specs.Answered.{Started, set_up_of, set_up_done, told_line, network_after}
-use Rattle.floor_link.specs.Calls.{Calls, last_of, lines_from, answered_from, Delivered}
+use Rattle.floor_link.specs.Calls.{Calls, last_of, lines_from, networks_from, answered_from, Delivered}
 
 -- the replies are those of the record's own list of events
 
@@ -43,6 +43,15 @@ lines_are w (e ∷ es) [] h = absurd h
 lines_are w (e ∷ es) (r ∷ rs) h =
     ap (◌∷◌ (told_line r)) (lines_are (network_after w r) es rs h.1)
     ∙ ap (λ (x : floor.Reply). x.line ∷ lines_of x.network es) h.0
+
+floors_are : (w : Network) (es : List Event) (rs : List (Result Reply Refusal)) → Calls w es rs → networks_from w rs ≡ networks_of w es
+unfolding networks_from networks_of
+floors_are w [] [] h = refl
+floors_are w [] (r ∷ rs) h = absurd h
+floors_are w (e ∷ es) [] h = absurd h
+floors_are w (e ∷ es) (r ∷ rs) h =
+    ap (◌∷◌ (network_after w r)) (floors_are (network_after w r) es rs h.1)
+    ∙ ap (λ (x : floor.Reply). x.network ∷ networks_of x.network es) h.0
 
 answers_are : (w : Network) (es : List Event) (rs : List (Result Reply Refusal)) → Calls w es rs → answered_from es rs ≡ answered_of w es
 unfolding answered_from answered_of
@@ -80,6 +89,7 @@ delivered n t r s h a es rs z c =
       claim = d.claim;
       lines = ap reverse (lines_are (new_network n t r) es rs k) ∙ d.lines;
       answers = ap reverse (answers_are (new_network n t r) es rs k) ∙ d.answers;
+      floors = ap reverse (floors_are (new_network n t r) es rs k) ∙ d.floors;
       network = l ∙ d.network;
       clean = subst Clean (sym l) (clean n t r v es z);
       next = λ e f x q. ap (λ (y : floor.Reply). y.line) (q ∙ ap (λ (g : Network). event_of g e) l ∙ d.next e f);

@@ -9,7 +9,7 @@ use Rattle.network.specs.declared.Network.{Network}
 use Rattle.network.specs.Lens.{put, new_network}
 use Rattle.network.specs.Events.{Line, line_of, event_of}
 use Rattle.network.specs.Clean.{Clean}
-use Rattle.network.specs.Demand.{entry_line}
+use Rattle.network.specs.Demand.{entry_line, entry_network}
 use Rattle.floor_link.specs.declared.Reply.{Reply}
 use Rattle.floor_link.specs.Answered.{told_line, network_after, reply_from}
 
@@ -31,6 +31,11 @@ unfoldable pub lines_from : List (Result Reply Refusal) → List Line
 lines_from [] = []
 lines_from (r ∷ rs) = told_line r ∷ lines_from rs
 
+-- "the floor after each event": the record that each call left
+unfoldable pub networks_from : Network → List (Result Reply Refusal) → List Network
+networks_from w [] = []
+networks_from w (r ∷ rs) = network_after w r ∷ networks_from (network_after w r) rs
+
 -- each event and its ANSWER
 unfoldable pub answered_from : List Event → List (Result Reply Refusal) → List Answered
 answered_from [] rs = []
@@ -45,7 +50,9 @@ pub record Delivered (n t r : ℕ) (es : List Event) (rs : List (Result Reply Re
   pub lines : reverse (lines_from rs) ≡ map entry_line (run (begin n t r) es).log
   -- so the accepted joins and the leaves that the claim speaks of are those of the calls' own answers
   pub answers : reverse (answered_from es rs) ≡ answers_of (run (begin n t r) es).log
-  -- the record then holds the machine's network, and nothing is left behind in its unused parts
+  -- after each call the record holds the machine's network, which that entry of the history has
+  pub floors : reverse (networks_from (new_network n t r) rs) ≡ map (entry_network (new_network n t r)) (run (begin n t r) es).log
+  -- and so after the last one, and nothing is left behind in its unused parts
   pub network : last_of (new_network n t r) rs ≡ put (new_network n t r) (run (begin n t r) es).network
   pub clean : Clean (last_of (new_network n t r) rs)
   -- and so for any next call, as a who that tells where a station stands

@@ -1,6 +1,6 @@
 -- Laws of a join at one access point's record.
 -- Assumes nothing.
-use Rattle.std.proofs.Common.{◌≡◌, ℕ, ◌+◌, ◌%◌, ◌^◌, ◌<◌, ◌≤◌, Bool, true, false, cond, not, ◌&&◌, ltb, leb, List, [], ◌∷◌, ◌++◌, map, length, get_or, sym, refl, ap, ◌∙◌, arith, ltb-true, le-ltb, lt-ltb, eq-eqb, ne_eqb, le-leb, leb-false}
+use Rattle.std.proofs.Common.{◌≡◌, ℕ, ◌+◌, ◌%◌, ◌^◌, ◌<◌, ◌≤◌, Bool, true, false, cond, not, ◌&&◌, ltb, leb, List, [], ◌∷◌, ◌++◌, map, length, get_or, sym, refl, ap, ◌∙◌, arith, ltb-true, le-ltb, lt-ltb, ne_eqb, le-leb, leb-false}
 use Rattle.std.specs.Prelude.{None, Some, is_some}
 use borrow.Author.Tests.{lt-leb, not-false}
 use lib.ListN.{length-map}
@@ -53,24 +53,6 @@ module _ (i k q n m : ℕ) (moving : Bool) where
   pub table_room : k ≤ i → k < 16 → first_of (moves_tests m moving) ≡ first_of (tests_at i k q n m moving)
   unfolding tests_at
   table_room h l = rw (le-ltb i k h, lt-leb 16 k l)
-
--- where the old AP is
-
-pub origin_none : (k b : ℕ) → nowhere ≡ origin_of k b None
-unfolding origin_of
-origin_none k b = refl
-
-pub origin_this : (k b o : ℕ) → o ≡ b → this ≡ origin_of k b (Some o)
-unfolding origin_of
-origin_this k b o e = rw (eq-eqb o b e)
-
-pub origin_another : (k b o : ℕ) → (o ≡ b → ⊥) → o < k → another o ≡ origin_of k b (Some o)
-unfolding origin_of
-origin_another k b o e h = rw (ne_eqb o b e, lt-ltb o k h)
-
-pub origin_off : (k b o : ℕ) → (o ≡ b → ⊥) → k ≤ o → nowhere ≡ origin_of k b (Some o)
-unfolding origin_of
-origin_off k b o e h = rw (ne_eqb o b e, le-ltb o k h)
 
 -- the table afterwards
 

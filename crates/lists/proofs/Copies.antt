@@ -5,14 +5,9 @@ use mathlib.Core.Path.{◌≡◌, ◌∙◌}
 use mathlib.Core.List.{List, ◌++◌, append-nil}
 use native.Mathlib.Omega.{arith}
 use native.Mathlib.Nat.{le_refl}
-use lib.Dec.{T, leb, leb→le}
 use lib.ListN.{length, take, drop, length-drop, drop_of_length-le}
 use lib.Seq.{take-length, take_at, drop_at, drop-drop, take-take, length-take-le}
 use Rattle.lists.proofs.Fronts.{rest_from}
-
--- the first k of a list of n, at numerals
-pub prefix_length : (k n : ℕ) (x : List ℕ) → length x ≡ n → T (leb k n) → length (take k x) ≡ k
-prefix_length k n x e h = length-take-le k x (rw e (leb→le k n h))
 
 -- the first k of x, copied to the front of b
 pub copied_front : (k : ℕ) (x b : List ℕ) → k ≤ length x

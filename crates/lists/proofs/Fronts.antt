@@ -1,12 +1,12 @@
 -- Lists whose first elements are named one by one.
 -- Assumes nothing.
-use Prim.Native.Nat.{ℕ, zero, suc, ◌+◌, ◌-◌, ◌≤◌}
-use mathlib.Core.Path.{◌≡◌, refl, sym, ap, ◌∙◌}
+use Prim.Native.Nat.{ℕ, zero, suc, ◌-◌, ◌≤◌}
+use mathlib.Core.Path.{◌≡◌, refl, sym}
 use mathlib.Core.List.{List, [], ◌∷◌, ◌++◌}
 use native.Mathlib.Omega.{arith}
-use native.Mathlib.Nat.{add-zero, not-suc-le-zero, le_of_suc-le-suc, suc_inj, suc-ne-zero}
+use native.Mathlib.Nat.{not-suc-le-zero, le_of_suc-le-suc, suc_inj, suc-ne-zero}
 use lib.ListN.{length, get_or, take, drop, length-drop}
-use lib.Seq.{get_or-drop, take_all}
+use lib.Seq.{take_all}
 
 -- P of every list that begins with k elements, which are named one by one
 abbrev pub Front : ℕ → (List ℕ → Type 0) → Type 0
@@ -36,15 +36,6 @@ pub six_cons : (l : List ℕ) → length l ≡ 6 → (t : List ℕ)
     → get_or l 0 0 ∷ get_or l 1 0 ∷ get_or l 2 0 ∷ get_or l 3 0 ∷ get_or l 4 0 ∷ get_or l 5 0 ∷ t ≡ l ++ t
 six_cons l h t =
     exact_ind 6 (λ (l : List ℕ). get_or l 0 0 ∷ get_or l 1 0 ∷ get_or l 2 0 ∷ get_or l 3 0 ∷ get_or l 4 0 ∷ get_or l 5 0 ∷ t ≡ l ++ t) (λ a b c d e f. refl) l h
-
--- six elements from i on, one by one, are the part of six at i
-pub six_at : (s : List ℕ) (i : ℕ) → i + 6 ≤ length s
-    → get_or s i 0 ∷ get_or s (i + 1) 0 ∷ get_or s (i + 2) 0 ∷ get_or s (i + 3) 0 ∷ get_or s (i + 4) 0 ∷ get_or s (i + 5) 0 ∷ [] ≡ take 6 (drop i s)
-six_at s i h =
-    let r : 6 ≤ length (drop i s) = omega (arith, length-drop i s) in
-    let z : get_or (drop i s) 0 0 ≡ get_or s i 0 = get_or-drop i s 0 0 ∙ ap (λ (k : ℕ). get_or s k 0) (add-zero i) in
-    simp (← z, ← get_or-drop i s 1 0, ← get_or-drop i s 2 0, ← get_or-drop i s 3 0, ← get_or-drop i s 4 0, ← get_or-drop i s 5 0)
-    (front_ind 6 (λ (l : List ℕ). get_or l 0 0 ∷ get_or l 1 0 ∷ get_or l 2 0 ∷ get_or l 3 0 ∷ get_or l 4 0 ∷ get_or l 5 0 ∷ [] ≡ take 6 l) (λ a b c d e f l. refl) (drop i s) r)
 
 -- the part from a to the end
 pub rest_from : (s : List ℕ) (a : ℕ) → take (length s - a) (drop a s) ≡ drop a s

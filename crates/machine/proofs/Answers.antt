@@ -16,7 +16,7 @@ use Rattle.elements.specs.declared.Association.{Association}
 use Rattle.elements.specs.declared.InFlight.{InFlight}
 use Rattle.machine.specs.Stations.{Station, same, is_group}
 use Rattle.machine.specs.Associations.{padded, given, association, sequence_of, held_context, context_octets, associate, dissociate, dissociate_older, dissociate_exactly, fill}
-use Rattle.machine.specs.Packets.{fields_as, written, carried, message_of, packet_of, readable, packet_in, octets_in}
+use Rattle.machine.specs.Packets.{Outgoing, add_notify, fields_as, written, carried, message_of, packet_of, readable, packet_in, octets_in}
 use Rattle.machine.specs.Moves.{Open, nothing, counted, counts_after, new_move, opening, notice_of, notices_of, agrees, earliest, close, answering, timed, fate, kept_from, kept, resent_by, resends, lapsed_by, lapsed, ticking}
 use Rattle.machine.specs.AccessPoint.{new_point, with_associations, with_moves, use_identifier, quietly, origin_of, joined, add_notifies, join_from, leave_by, tick_by, answer_to, answering_with, receive_add, receive_notify, receive_response, receive_by, receive, needs_move}
 use Rattle.machine.specs.Network.{setup_tests, new_network, access_point_at, set_point, set_in_flight, send, send_all}
@@ -170,10 +170,23 @@ pub record Examples : Type 0 where
   -- rows 16 and 17, moves 8 and 9
   sixteen_rows : answers (printed (begin 1 2 1) (joining None (ten ++ (11 ∷ 12 ∷ 13 ∷ 14 ∷ 15 ∷ 16 ∷ 17 ∷ [])))) ≡ replicate 16 (0 ∷ []) ++ ((16 ∷ []) ∷ [])
   eight_moves : answers (printed (begin 2 2 1) (joining (Some 1) (1 ∷ 2 ∷ 3 ∷ 4 ∷ 5 ∷ 6 ∷ 7 ∷ 8 ∷ 9 ∷ []))) ≡ replicate 8 (0 ∷ []) ++ ((17 ∷ []) ∷ [])
+  -- 16 before 17: a new station where there are 16 rows and 8 open moves
+  rows_before_moves :
+      answers (printed (begin 2 2 1) (joining (Some 1) (1 ∷ 2 ∷ 3 ∷ 4 ∷ 5 ∷ 6 ∷ 7 ∷ 8 ∷ []) ++ joining None (9 ∷ 10 ∷ 11 ∷ 12 ∷ 13 ∷ 14 ∷ 15 ∷ 16 ∷ []) ++ joining (Some 1) (17 ∷ [])))
+      ≡ replicate 16 (0 ∷ []) ++ ((16 ∷ []) ∷ [])
   -- "it is used even where there is no other AP": a plain join on a floor of one sends nothing and uses an identifier
   alone :
       printed (begin 1 2 1) (join 0 s1 5 None [] ∷ []) ≡ sent 0 ∷ []
   alone_identifier : (access_point_at (run (begin 1 2 1) (join 0 s1 5 None [] ∷ [])).network 0).next_identifier ≡ 1
+  -- "one ADD-notify .. goes to every other AP in rising number"
+  announced :
+      map (λ (x : Outgoing). x.to) (add_notifies 1 (record { identifier = 0; station = s1; sequence = 5; message = add_notify }) 0 4) ≡ 0 ∷ 2 ∷ 3 ∷ []
+  -- an old AP that is not on the floor is as none: two ADD-notifies, and no move
+  off_floor : printed (begin 3 2 1) (join 0 s1 5 (Some 3) [] ∷ []) ≡ sent 2 ∷ []
+  -- "A row is added last, or the station's row gets n in its place."
+  arrival :
+      map (λ (r : Association). r.sequence) (access_point_at (run (begin 1 2 1) (join 0 s1 5 None [] ∷ join 0 s2 6 None [] ∷ join 0 s1 7 (Some 0) [] ∷ [])).network 0).associations
+      ≡ 7 ∷ 6 ∷ []
   -- "from 65535 to 0"
   last_identifier : (use_identifier (record { associations = []; moves = []; next_identifier = 65535; counts = new_point.counts })).next_identifier ≡ 0
   -- "If old is this AP: context likewise, nothing sent": kept where a row was there, else empty; no identifier is used
@@ -211,8 +224,9 @@ pub record Examples : Type 0 where
   valid_flight : map (valid_in_flight 2) (packet_in_flight 1 0 18 ∷ packet_in_flight 1 0 82 ∷ packet_in_flight 2 0 18 ∷ packet_in_flight 1 2 18 ∷ packet_in_flight 1 0 17 ∷ packet_in_flight 1 0 83 ∷ []) ≡ true ∷ true ∷ false ∷ false ∷ false ∷ false ∷ []
   -- one AP alone: P8 is answered at the front of the lent buffer, and the rest of it stays
   outside_answer : outside (lone 0) 1 p8 (replicate 20 7) ≡ record { answer = 0; lone = lone 0; len = 18; buffer = p8_answer ++ (7 ∷ 7 ∷ []) }
-  -- 10 where it is too short, and then nothing changes; 11 for a sender not on the floor or the AP itself; the reader's number
+  -- 10 where it is too short, and then nothing changes; 11 for a sender not on the floor or the AP itself, before 1; the reader's number
   outside_short : outside (lone 0) 1 p8 (replicate 17 7) ≡ record { answer = 10; lone = lone 0; len = 0; buffer = replicate 17 7 }
+  outside_order : (outside (lone 0) 0 [] []).answer ≡ 11
   outside_senders : map (λ from. (outside (lone 0) from p8 []).answer) (0 ∷ 1 ∷ 2 ∷ []) ≡ 11 ∷ 10 ∷ 11 ∷ []
   outside_reader : map (λ s. (outside (lone 0) 1 s []).answer) ([] ∷ take 17 p8 ∷ []) ≡ 1 ∷ 4 ∷ []
   -- 14 before every other number: the AP's own number is not on the floor
@@ -273,8 +287,12 @@ examples =
       full_air_sent = refl;
       sixteen_rows = refl;
       eight_moves = refl;
+      rows_before_moves = refl;
       alone = refl;
       alone_identifier = refl;
+      announced = refl;
+      off_floor = refl;
+      arrival = refl;
       last_identifier = refl;
       context_kept = refl;
       context_dropped = refl;
@@ -287,6 +305,7 @@ examples =
       valid_flight = refl;
       outside_answer = refl;
       outside_short = refl;
+      outside_order = refl;
       outside_senders = refl;
       outside_reader = refl;
       outside_record = refl;

@@ -24,10 +24,6 @@ use Rattle.moves.specs.Asked.{asked}
 abbrev pub asked_by : Packet → Packet
 asked_by p = asked p.identifier p.station p.sequence
 
-pub only_asked : (from : ℕ) (p : Packet) (m : Move) → agrees from p m ≡ agrees from (asked_by p) m
-unfolding agrees
-only_asked from p m = refl
-
 pub earliest_asked : (from : ℕ) (p : Packet) (ms : List Open) → earliest from p ms ≡ earliest from (asked_by p) ms
 unfolding earliest agrees
 earliest_asked from p [] = refl
@@ -37,10 +33,6 @@ pub close_asked : (from : ℕ) (p : Packet) (ms : List Open) → close from p ms
 unfolding close agrees
 close_asked from p [] = refl
 close_asked from p (m ∷ ms) = ap (λ (l : List Open). cond (agrees from p m.move) ms (m ∷ l)) (close_asked from p ms)
-
-pub index_asked : (from : ℕ) (p : Packet) (xs : List Move) → index_by (agrees from p) xs ≡ index_by (agrees from (asked_by p)) xs
-unfolding agrees
-index_asked from p xs = refl
 
 -- The earliest move that agrees stands at the place that the search yields, and closing it takes that place out
 
@@ -107,10 +99,6 @@ module _ (t : ℕ) where
 pub counted_none : (c : ℕ) → counted c [] ≡ c
 unfolding counted
 counted_none c = refl
-
-pub counted_one : (c : ℕ) (m : Open) → counted c (m ∷ []) ≡ (c + 1) % 2 ^ 32
-unfolding counted
-counted_one c m = refl
 
 pub counted_all : (c : ℕ) (ms : List Open) → c < 2 ^ 32 → counted c ms ≡ (c + length ms) % 2 ^ 32
 unfolding counted

@@ -26,7 +26,7 @@ use Rattle.record.specs.Lens.{put_point}
 use Rattle.network.specs.declared.Network.{Network}
 use Rattle.network.specs.Lens.{put_points, get, put, new_point, new_network}
 use Rattle.network.specs.Events.{valid_network_record, line_of, Reply, reply_of, refused, event_of, run_of, lines_of}
-use Rattle.network.specs.Demand.{entry_line, answered_of, Demand}
+use Rattle.network.specs.Demand.{entry_line, entry_network, networks_of, answered_of, Demand}
 use Rattle.network.proofs.LensLaws.{no_name, get_put, SmallNetwork, put_new, put_nameless}
 use Rattle.network.proofs.Refusal14.{valid_put}
 
@@ -107,6 +107,14 @@ module _ (n t r : ℕ) (size : (1 ≤ n) × (n ≤ 8)) where
       ap (λ (x : Reply). reverse_aux (lines_of x.network es) (x.line ∷ map entry_line w.log)) (same_after w e v z)
       ∙ same_lines (after w e) es (valid_after w e z v) zs
 
+  same_floors : {C : Type 0} (w : World) (es : List Event) → Valid C n w.network → All Formed es
+      → reverse_aux (networks_of (put (new_network n t r) w.network) es) (map (entry_network (new_network n t r)) w.log) ≡ map (entry_network (new_network n t r)) (run w es).log
+  unfolding networks_of run entry_network after
+  same_floors w [] v nil = refl
+  same_floors w (e ∷ es) v (cons z zs) =
+      ap (λ (x : Reply). reverse_aux (networks_of x.network es) (x.network ∷ map (entry_network (new_network n t r)) w.log)) (same_after w e v z)
+      ∙ same_floors (after w e) es (valid_after w e z v) zs
+
   same_answers : {C : Type 0} (w : World) (es : List Event) → Valid C n w.network → All Formed es
       → reverse_aux (answered_of (put (new_network n t r) w.network) es) (answers_of w.log) ≡ answers_of (run w es).log
   unfolding answered_of run answers_of after line_of
@@ -150,6 +158,11 @@ module _ (n t r : ℕ) (setup : valid_setup n t r ≡ true) where
   lines_reversed es zs =
       ap (λ (w : Network). reverse (lines_of w es)) (sym (put_begin n t r)) ∙ same_lines n t r sizes.count (begin n t r) es valid_first zs
 
+  floors_reversed : (es : List Event) → All Formed es → reverse (networks_of (new_network n t r) es) ≡ map (entry_network (new_network n t r)) (run (begin n t r) es).log
+  unfolding begin
+  floors_reversed es zs =
+      ap (λ (w : Network). reverse (networks_of w es)) (sym (put_begin n t r)) ∙ same_floors n t r sizes.count (begin n t r) es valid_first zs
+
   answers_reversed : (es : List Event) → All Formed es → reverse (answered_of (new_network n t r) es) ≡ answers_of (run (begin n t r) es).log
   unfolding begin answers_of
   answers_reversed es zs =
@@ -161,6 +174,7 @@ module _ (n t r : ℕ) (setup : valid_setup n t r ≡ true) where
         claim = claim n t r setup es zs;
         lines = lines_reversed es zs;
         answers = answers_reversed es zs;
+        floors = floors_reversed es zs;
         network = reached es zs;
         next = λ e z. ap (λ (w : Network). event_of w e) (reached es zs) ∙ same_after n t r sizes.count (run (begin n t r) es) e (valid_run (begin n t r) es zs valid_first) z;
       }

@@ -13,6 +13,15 @@ use Rattle.network.specs.Events.{Line, line_of, event_of, run_of, lines_of}
 unfoldable pub entry_line : Entry → Line
 entry_line x = line_of x.outcome
 
+-- the floor after an entry of the machine's history, put into the record w
+unfoldable pub entry_network : Network → Entry → Network
+entry_network w x = put w x.outcome.network
+
+-- "the floor after each event": the record that each event of a list leaves, in order
+unfoldable pub networks_of : Network → List Event → List Network
+networks_of w [] = []
+networks_of w (e ∷ es) = (event_of w e).network ∷ networks_of (event_of w e).network es
+
 -- each event of a list and its ANSWER, in order
 unfoldable pub answered_of : Network → List Event → List Answered
 answered_of w [] = []
@@ -25,7 +34,9 @@ pub record Demand (n t r : ℕ) (es : List Event) : Type 0 where
   pub lines : reverse (lines_of (new_network n t r) es) ≡ map entry_line (run (begin n t r) es).log
   -- so the accepted joins and the leaves that the claim speaks of are those of the record's own answers
   pub answers : reverse (answered_of (new_network n t r) es) ≡ answers_of (run (begin n t r) es).log
-  -- the record then holds the machine's network
+  -- after each event the record holds the machine's network, which that entry of the history has
+  pub floors : reverse (networks_of (new_network n t r) es) ≡ map (entry_network (new_network n t r)) (run (begin n t r) es).log
+  -- and so after the last one
   pub network : run_of (new_network n t r) es ≡ put (new_network n t r) (run (begin n t r) es).network
   -- and so for any next event, as a who that tells where a station stands
   pub next : (e : Event) → Formed e

@@ -1,4 +1,4 @@
--- What the laws of reader and writer say: "Reading returns what was written; each accepted packet is written back the same
+-- What the laws of reader and writer say: "Reading returns what was written, and each accepted packet is written back the same
 -- but for padding and the reserved octet."
 use Rattle.std.specs.Prelude.{ℕ, ◌≤◌, ◌≡◌, cond, List, [], length, take, set}
 use Rattle.packet.specs.Layout.{command_in, length_in, is_add, is_response, context_start}

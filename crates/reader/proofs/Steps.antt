@@ -1,21 +1,25 @@
 -- The reader's two steps, the tests of the header and of the data, decide on the whole packet; and the context block lies within it.
 -- Assumes nothing.
 use Prim.Native.Nat.{ℕ, ◌+◌, ◌-◌, ◌≤◌}
-use mathlib.Core.Path.{◌≡◌, sym, ◌∙◌}
-use mathlib.Core.List.{List}
-use mathlib.Core.Bool.{cond}
+use Rattle.std.proofs.Common.{is_ok, Result, Ok, Err}
+use mathlib.Core.Path.{◌≡◌, refl, sym, ap, ◌∙◌}
+use mathlib.Core.List.{List, [], ◌∷◌}
+use mathlib.Core.Bool.{true, cond, not, ◌&&◌}
 use native.Mathlib.Omega.{arith}
 use native.Mathlib.Nat.{add-sub_cancel_left}
 use borrow.Author.Tests.{ne_eqb}
 use lib.ListN.{length, take, drop, length-drop}
+use lib.Dec.{ltb}
 use lib.Seq.{length-take-le}
 use Rattle.lists.specs.Table.{first_of, accepts}
 use Rattle.lists.proofs.Fronts.{rest_from}
 use Rattle.lists.proofs.Tables.{in_parts, tests}
+use Rattle.answers.specs.declared.Refusal.{Refusal}
 use Rattle.answers.proofs.Numbers.{refusal_above, ok_is_zero}
-use Rattle.packet.specs.Layout.{command_in, identifier_in, length_in, data_in, status_in}
-use Rattle.reader.specs.Refusals.{head_tests, data_tests, reader_tests}
-use Rattle.reader.specs.Read.{Reading, refused_by, taken, read_of, context_of}
+use Rattle.packet.specs.Layout.{is_add, command_in, identifier_in, length_in, data_in, status_in}
+use Rattle.reader.specs.Refusals.{head_tests, front_tests, context_off, data_tests, reader_tests}
+use Rattle.reader.specs.declared.Received.{Received}
+use Rattle.reader.specs.Read.{Reading, read_as, refused_by, accept, taken, read_data, read_of, context_of}
 use Rattle.reader.proofs.Acceptance.{HeaderOk, DataOk, header_ok, header_passes, data_ok, data_passes}
 
 -- the data's tests for the packet s
@@ -55,6 +59,11 @@ pub read_refused : (s : List ℕ) (k : ℕ) → k ≡ first_of (reader_tests s) 
 unfolding read_of
 read_refused s k e z = rw (← e, ne_eqb k 0 z)
 
+-- what the reader answers for an accepted packet is its fields
+pub read_ok : (r : Result Received Refusal) (s : List ℕ) → read_as r ≡ read_of s → (read_of s).answer ≡ 0 → is_ok r ≡ true
+read_ok (Ok x) s e z = refl
+read_ok (Err k) s e z = absurd (grind (arith, refusal_above k, ap (λ (x : Reading). x.answer) e))
+
 pub packet_ok : (s : List ℕ) → (read_of s).answer ≡ 0 → PacketOk s
 packet_ok s e = tests_ok s (sym (answered s) ∙ e)
 
@@ -73,12 +82,6 @@ header_room s h = grind arith
 
 pub accepted_header : (s : List ℕ) → 0 ≡ first_of (head_tests s) → Room s
 accepted_header s p = header_room s (header_ok s p)
-
-pub accepted_packet : (s : List ℕ) → first_of (reader_tests s) ≡ 0 → Room s
-accepted_packet s p = header_room s (tests_ok s p).header
-
-pub accepted_taken : (s : List ℕ) → first_of (reader_tests s) ≡ 0 → read_of s ≡ taken (command_in s) (status_in (command_in s) (data_in s)) (identifier_in s) (data_in s)
-accepted_taken s p = packet_taken s (tests_ok s p)
 
 -- the context block lies within the packet, and starts at octet 18 at the latest
 pub within : (s : List ℕ) → (read_of s).start + (read_of s).len ≤ length s
@@ -103,10 +106,37 @@ part_length s r e =
 pub accepted_limits : (s : List ℕ) → (read_of s).answer ≡ 0 → ((read_of s).sequence ≤ 4095) × ((read_of s).len ≤ 64)
 accepted_limits s e = let h = packet_ok s e in rw (packet_taken s h) (grind (arith, tests))
 
--- what the answer follows from, the fields of an accepted packet, the reading, and its context
-pub ruleset of_answer = (header_refused, refusal_above, data_decides, accepted_header, rest_from)
+-- after an accepted header the reader of the data gives the reading, and a refused header's number is its refusal
+pub data_is_read : (s : List ℕ) → 0 ≡ first_of (head_tests s) → read_data (command_in s) (identifier_in s) (length_in s) (data_in s) ≡ read_of s
+unfolding read_data read_of
+data_is_read s p = rw (← data_decides s p)
 
-pub ruleset of_fields = (accepted_packet, accepted_taken, rest_from)
+-- the tests of a command's data: those of the front decide, and where they accept 8 and 9
+abbrev behind_front : ℕ → ℕ → ℕ → List ℕ → ℕ
+behind_front c t n d = first_of ((ltb 1 t, 8) ∷ (not (is_add c) && context_off n d, 9) ∷ [])
+
+by_front : (c t n : ℕ) (d : List ℕ) → first_of (data_tests c t n d) ≡ cond (accepts (first_of (front_tests d))) (behind_front c t n d) (first_of (front_tests d))
+unfolding data_tests
+by_front c t n d = in_parts (front_tests d) ((ltb 1 t, 8) ∷ (not (is_add c) && context_off n d, 9) ∷ []) tt
+
+-- data that the front's tests refuse, by k
+pub front_refused : (c i n k : ℕ) (d : List ℕ) → k ≡ first_of (front_tests d) → (k ≡ 0 → ⊥) → refused_by k ≡ read_data c i n d
+unfolding read_data
+front_refused c i n k d e z = rw (by_front c (status_in c d) n d, ← e, ne_eqb k 0 z, ne_eqb k 0 z)
+
+-- data whose front is accepted: 8 and 9 decide
+pub behind_decides : (c i n : ℕ) (d : List ℕ) → 0 ≡ first_of (front_tests d) → accept (behind_front c (status_in c d) n d) (taken c (status_in c d) i d) ≡ read_data c i n d
+unfolding read_data
+behind_decides c i n d e = rw (by_front c (status_in c d) n d, ← e)
+
+-- of an ADD-notify the header's tests say the size
+pub add_is_read : (s : List ℕ) → 0 ≡ first_of (head_tests s) → 0 ≡ command_in s → read_data 0 (identifier_in s) 16 (data_in s) ≡ read_of s
+add_is_read s p z = rw (← data_is_read s p, ← z, (header_ok s p).add (sym z))
+
+-- what the reading follows from, and the context block
+pub ruleset of_data = (tests, refusal_above, ne_eqb, front_refused, behind_decides)
+
+pub ruleset of_read = (header_refused, read_refused, refusal_above, data_is_read, add_is_read, accepted_header, rest_from)
 
 pub ruleset of_reading = (answered, read_refused, refusal_above, ok_is_zero)
 

@@ -1,17 +1,17 @@
-// The reader of packets: the refusals first, the header's and then those of the data, the part that begins at octet 6; then the
-// fields of an accepted packet.
+// The reader of packets: the header first, then the data, the part that begins at octet 6, which is lent to the reader of each
+// command's data.
 #![tactic(auto)]
 
-ghost use Rattle.std.specs.Prelude.{◌≡◌, ◌+◌, ◌≤◌, ◌<◌, length, take, drop, IfOk};
+ghost use Rattle.std.specs.Prelude.{◌≡◌, ◌+◌, ◌≤◌, ◌<◌, [], ◌∷◌, length, take, drop, IfOk};
 ghost use Rattle.lists.specs.Table.{first_of, accepts};
 ghost use Rattle.answers.specs.Numbers.{number_of};
 ghost use Rattle.packet.specs.Octets.{be16};
 ghost use Rattle.packet.specs.Fields.{octet_of};
-ghost use Rattle.packet.specs.Layout.{command_in, status_in};
-ghost use Rattle.reader.specs.Refusals.{head_tests, data_tests, reader_tests};
-ghost use Rattle.reader.specs.Read.{reading_of, read_as, read_of, context_of};
+ghost use Rattle.packet.specs.Layout.{command_in, sequence_in, context_length_in};
+ghost use Rattle.reader.specs.Refusals.{head_tests, front_tests, context_off};
+ghost use Rattle.reader.specs.Read.{read_as, read_data, read_of, context_of};
 
-use answers::{Answer, Refusal};
+use answers::Refusal;
 use packet::Command;
 
 // What an accepted packet says. The context block is the part of the packet from octet `start` on, of `len` octets. Stays two numbers, and
@@ -72,92 +72,120 @@ fn header(packet: &[u8]) -> Result<Command, Refusal>
     Ok(command)
 }
 
-// The data's refusals, 6 to 9, in a packet with this command, status and size. The status stays a number, as it came: 8 is found here.
-#[tactic(auto, using(lists::proofs::Tables::tests), unfolding(crate::specs::Refusals::data_tests))]
-fn data_answer(command: Command, status: u8, size: usize, data: &[u8]) -> Answer
-    requires { (10 ≤ length «data».now) × ((octet_of command ≡ 0 → ⊥) → 12 ≤ length «data».now) }
-    ensures { number_of result ≡ first_of (data_tests (octet_of command) status size «data».now) }
+// What every command's data begins with: 6, 7, or the sequence number.
+#[tactic(auto, using(lists::proofs::Tables::tests))]
+fn sequence_of(data: &[u8]) -> Result<u16, Refusal>
+    requires { 10 ≤ length «data».now }
+    ensures refusal { number_of result ≡ first_of (front_tests «data».now) }
+    ensures sequence { IfOk result (λ n. n ≡ sequence_in «data».now) }
 {
     if data[0] != 6 {
         return Err(Refusal::WrongAddressLength);
     }
-    if 4095 < number_at(data, 8) {
+    let sequence = number_at(data, 8);
+    if 4095 < sequence {
         return Err(Refusal::SequenceOutOfRange);
     }
-    if 1 < status {
-        return Err(Refusal::UnknownStatus);
-    }
-    if command == Command::AddNotify {
-        return Ok(());
-    }
+    Ok(sequence)
+}
+
+// What a MOVE's data goes on with, in a packet of `size` octets: 9, or the length of the context block.
+#[tactic(auto, using(lists::proofs::Tables::tests))]
+fn context_length_of(size: usize, data: &[u8]) -> Result<usize, Refusal>
+    requires { 12 ≤ length «data».now }
+    ensures refusal { number_of result ≡ first_of ((context_off size «data».now, 9) ∷ []) }
+    ensures length_value { IfOk result (λ n. n ≡ context_length_in «data».now) }
+{
     let len = number_at(data, 10) as usize;
     if 64 < len || size != 18 + len {
         return Err(Refusal::WrongContext);
     }
-    Ok(())
+    Ok(len)
 }
 
-// The status of a packet with this command: only a MOVE-response has one, and 0 stands for it in the others.
-fn status_at(command: Command, data: &[u8]) -> u8
-    requires { 1 < length «data».now }
-    ensures { result ≡ status_in (octet_of command) «data».now }
+// The data of an ADD-notify: its Reserved octet is ignored.
+#[tactic(auto, using(std::proofs::lemmas::Grind::common_steps, crate::proofs::Steps::of_data))]
+fn read_add(identifier: u16, data: &[u8]) -> Result<Received, Refusal>
+    requires { 10 ≤ length «data».now }
+    ensures { read_as result ≡ read_data 0 identifier 16 «data».now }
 {
+    let sequence = sequence_of(data)?;
+    Ok(Received {
+        command: Command::AddNotify,
+        identifier,
+        status: 0,
+        station: station_at(data, 2),
+        sequence,
+        start: 0,
+        len: 0,
+    })
+}
+
+// The data of a MOVE-notify, in a packet of `size` octets: its Reserved octet is ignored.
+#[tactic(auto, using(std::proofs::lemmas::Grind::common_steps, crate::proofs::Steps::of_data))]
+fn read_notify(identifier: u16, size: usize, data: &[u8]) -> Result<Received, Refusal>
+    requires { 12 ≤ length «data».now }
+    ensures { read_as result ≡ read_data 1 identifier size «data».now }
+{
+    let sequence = sequence_of(data)?;
+    let len = context_length_of(size, data)?;
+    Ok(Received {
+        command: Command::MoveNotify,
+        identifier,
+        status: 0,
+        station: station_at(data, 2),
+        sequence,
+        start: 18,
+        len,
+    })
+}
+
+// The data of a MOVE-response, in a packet of `size` octets: its second octet is the Status.
+#[tactic(auto, using(std::proofs::lemmas::Grind::common_steps, crate::proofs::Steps::of_data))]
+fn read_response(identifier: u16, size: usize, data: &[u8]) -> Result<Received, Refusal>
+    requires { 12 ≤ length «data».now }
+    ensures { read_as result ≡ read_data 2 identifier size «data».now }
+{
+    let sequence = sequence_of(data)?;
+    let status = data[1];
+    if 1 < status {
+        return Err(Refusal::UnknownStatus);
+    }
+    let len = context_length_of(size, data)?;
+    Ok(Received {
+        command: Command::MoveResponse,
+        identifier,
+        status,
+        station: station_at(data, 2),
+        sequence,
+        start: 18,
+        len,
+    })
+}
+
+// Reads a packet: the header, then the data, the part that begins at octet 6, by its command's reader.
+#[tactic(auto, using(std::proofs::lemmas::Grind::common_steps, crate::proofs::Steps::of_read))]
+#[inline(always)]
+pub fn read(packet: &[u8]) -> Result<Received, Refusal>
+    ensures { read_as result ≡ read_of packet.now }
+{
+    let command = header(packet)?;
+    let identifier = number_at(packet, 2);
+    let size = number_at(packet, 4) as usize;
+    let data = &packet[6..];
     match command {
-        Command::AddNotify | Command::MoveNotify => 0,
-        Command::MoveResponse => data[1],
+        Command::AddNotify => read_add(identifier, data),
+        Command::MoveNotify => read_notify(identifier, size, data),
+        Command::MoveResponse => read_response(identifier, size, data),
     }
 }
 
-// The refusal of a packet, 1 to 9, the first that applies.
-#[tactic(auto, using(std::proofs::lemmas::Grind::common_steps, crate::proofs::Steps::of_answer))]
-pub fn answer(packet: &[u8]) -> Answer
-    ensures { number_of result ≡ first_of (reader_tests packet.now) }
-{
-    let command = header(packet)?;
-    let size = number_at(packet, 4) as usize;
-    let data = &packet[6..];
-    let status = status_at(command, data);
-    data_answer(command, status, size, data)
-}
-
-// Whether the reader accepts a packet: its tests alone, with no field read, for the test of 14, which asks no more.
+// Whether the reader accepts a packet, for the test of 14, which asks no more.
 #[tactic(auto, using(crate::proofs::Steps::of_reading))]
 pub fn accepted(packet: &[u8]) -> bool
     ensures { result ≡ accepts (read_of packet.now).answer }
 {
-    answer(packet).is_ok()
-}
-
-// The fields of an accepted packet: an ADD-notify has no context, and the context block of a MOVE starts at octet 18.
-#[tactic(auto, using(std::proofs::lemmas::Grind::common_steps, crate::proofs::Steps::of_fields))]
-pub fn fields(packet: &[u8]) -> Received
-    requires { first_of (reader_tests packet.now) ≡ 0 }
-    ensures { reading_of result ≡ read_of packet.now }
-{
-    let command = Command::try_from(packet[1]).unwrap();
-    let data = &packet[6..];
-    let (start, len) = match command {
-        Command::AddNotify => (0, 0),
-        Command::MoveNotify | Command::MoveResponse => (18, number_at(data, 10) as usize),
-    };
-    Received {
-        command,
-        identifier: number_at(packet, 2),
-        status: status_at(command, data),
-        station: station_at(data, 2),
-        sequence: number_at(data, 8),
-        start,
-        len,
-    }
-}
-
-// Reads a packet: its refusal, or its fields.
-#[tactic(auto, using(crate::proofs::Steps::of_reading))]
-pub fn read(packet: &[u8]) -> Result<Received, Refusal>
-    ensures { read_as result ≡ read_of packet.now }
-{
-    answer(packet)?;
-    Ok(fields(packet))
+    read(packet).is_ok()
 }
 
 // The context block of a packet, as that part of it and no copy; empty where the packet is refused or is an ADD-notify.

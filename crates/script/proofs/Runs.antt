@@ -75,24 +75,25 @@ module _ (n t r : ℕ) (v : valid_setup n t r ≡ true) where
 -- A whole script
 
 -- the set-up that a script says is within the limits
-abbrev Limited : Values → Type 0
+abbrev pub Limited : Values → Type 0
 Limited v = valid_setup v.aps v.timeout v.resends ≡ true
 
-values_limited : (fs : List (List ℕ)) → Of Limited (value_fields fs)
-unfolding value_fields limited
-values_limited fs =
-    by_cond (Of Limited) (eqb (length fs) 3)
-    (λ e. by_option (Of Limited) (number_in (get_or fs 0 [])) (λ _. tt) (λ n _.
-    by_option (Of Limited) (number_in (get_or fs 1 [])) (λ _. tt) (λ t _.
-    by_option (Of Limited) (number_in (get_or fs 2 [])) (λ _. tt) (λ r _.
+pub values_limited : (l : List ℕ) → Of Limited (values_in l)
+unfolding values_in value_fields limited
+values_limited l =
+    by_cond (Of Limited) (ltb 255 (length l)) (λ _. tt) (λ _.
+    by_cond (Of Limited) (eqb (length (fields l)) 3)
+    (λ e. by_option (Of Limited) (number_in (get_or (fields l) 0 [])) (λ _. tt) (λ n _.
+    by_option (Of Limited) (number_in (get_or (fields l) 1 [])) (λ _. tt) (λ t _.
+    by_option (Of Limited) (number_in (get_or (fields l) 2 [])) (λ _. tt) (λ r _.
     by_cond (Of Limited) (valid_setup n t r) (λ v. v) (λ _. tt)))))
-    (λ e. tt)
+    (λ e. tt))
 
 set_up_limited : (ls : List (List ℕ)) → Of Limited (set_up_in ls)
-unfolding set_up_in values_in
+unfolding set_up_in
 set_up_limited ls =
     by_cond (Of Limited) (leb 3 (length ls) && (same (get_or ls 0 []) set_up_names && same (get_or ls 2 []) event_names))
-    (λ e. by_cond (Of Limited) (ltb 255 (length (get_or ls 1 []))) (λ _. tt) (λ _. values_limited (fields (get_or ls 1 []))))
+    (λ e. values_limited (get_or ls 1 []))
     (λ e. tt)
 
 module _ (s : List ℕ) (v : Values) (e : set_up_in (lines s) ≡ Some v) where
@@ -108,6 +109,10 @@ pub output_bad : (s : List ℕ) → set_up_in (lines s) ≡ None → output_of s
 unfolding output_of
 output_bad s e = rw e
 
--- demand 3 of every script
-pub script_claim : (s : List ℕ) → ScriptClaim s
-script_claim s v e = claim_holds v.aps v.timeout v.resends (values_valid s v e) (event_lines (lines s))
+-- demand 3 of what every script with a good set-up prints
+pub script_claim : (s : List ℕ) (v : Values) → set_up_in (lines s) ≡ Some v → ScriptClaim s v
+script_claim s v e =
+    record {
+      text = unfold output_of in rw e refl;
+      claim = claim_holds v.aps v.timeout v.resends (values_valid s v e) (event_lines (lines s));
+    }

@@ -19,7 +19,7 @@ unfoldable pub value_from : ℕ → List ℕ → ℕ
 value_from v [] = v
 value_from v (x ∷ xs) = value_from (10 * v + (x - 48)) xs
 
--- a leading zero, or no digit at all. 0 itself is written with one
+-- at least one octet, and no leading zero but in 0 itself
 unfoldable pub is_plain : List ℕ → Bool
 is_plain [] = false
 is_plain (x ∷ []) = true

@@ -32,9 +32,11 @@ start_of v = begin v.aps v.timeout v.resends
 unfoldable pub output_of : List ℕ → List ℕ
 output_of s = result_names ++ case_option (set_up_in (lines s)) bad_set_up (λ v. printed_by (start_of v) (event_lines (lines s)))
 
--- the claim of demand 3, of the list of the script's events
-abbrev pub ScriptClaim : List ℕ → Type 0
-ScriptClaim s = (v : Values) → set_up_in (lines s) ≡ Some v → Claim v.resends (run (start_of v) (events_in (event_lines (lines s))))
+-- A script s whose set-up v is good: its output is what the machine prints of its lines from the floor just set up, and of the list of their
+-- events, run from there, demand 3 holds
+pub record ScriptClaim (s : List ℕ) (v : Values) : Type 0 where
+  pub text : output_of s ≡ result_names ++ printed_by (start_of v) (event_lines (lines s))
+  pub claim : Claim v.resends (run (start_of v) (events_in (event_lines (lines s))))
 
 -- The same on a network's record: what the lines print there, and the record then
 

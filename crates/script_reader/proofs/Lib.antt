@@ -7,7 +7,7 @@ pub mod Saying
 -- a context in the lent array
 pub mod Contexts
 -- the set-up: a line of values, and the first three lines
-pub mod Values
+pub mod ValuesLine
 pub mod Lines
 -- what the caller of read_event knows
 pub mod Event

@@ -8,8 +8,9 @@ use Rattle.events.specs.declared.Kind.TheVariants.{Who}
 use Rattle.script.specs.Text.{lines}
 use Rattle.script.specs.Put.{front_given}
 use Rattle.script.specs.EventLine.{Said, said_of}
-use Rattle.script.specs.SetUpLines.{set_up_in}
+use Rattle.script.specs.SetUpLines.{Values, set_up_in}
 use Rattle.script_reader.specs.declared.Heard as code
+use Rattle.script_reader.specs.declared.Values as line
 use Rattle.script_reader.specs.declared.Opening as opened
 
 -- a line of an event: all but the octets of its context
@@ -68,6 +69,11 @@ unfoldable pub context_to : List ℕ → List ℕ → List ℕ
 context_to l b = front_given (case_option (said_of l) None (λ x. Some x.context)) b
 
 -- The set-up
+
+-- what a line of values says, in the code's struct
+abbrev pub values_from : Option line.Values → Option Values
+values_from None = None
+values_from (Some v) = Some (record { aps = v.aps; timeout = v.timeout; resends = v.resends })
 
 -- a text without its first line
 unfoldable pub past_line : List ℕ → List ℕ

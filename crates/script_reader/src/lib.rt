@@ -5,8 +5,8 @@ ghost use Rattle.std.specs.Prelude.{◌≡◌, ◌≤◌, false, length};
 ghost use Rattle.script.specs.Text.{place_from, next_from};
 ghost use Rattle.script.specs.EventLine.{said_with};
 ghost use Rattle.script.specs.SetUpLines.{values_in};
-ghost use Rattle.script_reader.specs.Heard.{heard_as, heard_from, nothing_heard, heard_in, context_to, opening_from, opening_in};
-ghost use Rattle.script_reader.specs.Parts.{heard_said, context_said, opening_with};
+ghost use Rattle.script_reader.specs.Heard.{heard_as, heard_from, nothing_heard, heard_in, context_to, values_from, opening_from, opening_in};
+ghost use Rattle.script_reader.specs.Parts.{heard_said, context_said};
 
 use events::{Event, Kind};
 
@@ -19,6 +19,14 @@ const LONGEST_LINE: usize = 255;
 pub struct Heard {
     pub event: Event,
     pub context_len: usize,
+}
+
+// APS, TIMEOUT and RESENDS, as a line of values says them.
+#[derive(Clone, Copy)]
+pub struct Values {
+    pub aps: u16,
+    pub timeout: u16,
+    pub resends: u16,
 }
 
 // The set-up that a script begins with: APS, TIMEOUT and RESENDS, and where the lines of events begin.
@@ -106,9 +114,9 @@ fn read_fields(
     })
 }
 
-// APS, TIMEOUT and RESENDS, of the line of values; `next` is handed on.
-fn read_values(l: &[u8], next: usize) -> Option<Opening>
-    ensures { opening_from result ≡ opening_with next (values_in l.now) }
+// The line of values.
+pub fn read_values(l: &[u8]) -> Option<Values>
+    ensures { values_from result ≡ values_in l.now }
 {
     if LONGEST_LINE < l.len() {
         return None;
@@ -120,11 +128,10 @@ fn read_values(l: &[u8], next: usize) -> Option<Opening>
     if fields.next().is_some() || !access_point::valid_setup(aps, timeout, resends) {
         return None;
     }
-    Some(Opening {
+    Some(Values {
         aps,
         timeout,
         resends,
-        next,
     })
 }
 
@@ -143,5 +150,11 @@ pub fn read_opening(s: &[u8]) -> Option<Opening>
         return None;
     }
     let end = names.len() + values.len() + event_names.len() + 2;
-    read_values(values, next_line(s, end))
+    let v = read_values(values)?;
+    Some(Opening {
+        aps: v.aps,
+        timeout: v.timeout,
+        resends: v.resends,
+        next: next_line(s, end),
+    })
 }

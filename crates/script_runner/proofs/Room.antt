@@ -27,11 +27,11 @@ lines_few (x ∷ xs) = go (eqb x 10) (split 10 [] xs) (lines_few xs)
     go false [] h = unfold on_first in omega arith
     go false (p ∷ ps) h = unfold on_first in omega arith
 
-unreadable_short : length unreadable ≤ 32
+pub unreadable_short : length unreadable ≤ 32
 unfolding unreadable
 unreadable_short = omega arith
 
-result_of_short : (e : Event) (w : Network) → length (result_of e (event_of w e).line) ≤ 32
+pub result_of_short : (e : Event) (w : Network) → length (result_of e (event_of w e).line) ≤ 32
 unfolding result_of
 result_of_short e w = omega (arith, result_short (kind_of e) (event_of w e).line)
 

@@ -7,7 +7,7 @@ ghost use Rattle.network.specs.Events.{valid_network_record};
 ghost use Rattle.script.specs.Text.{lines};
 ghost use Rattle.script.specs.Put.{over, front};
 ghost use Rattle.script.specs.Result.{result_names, bad_set_up};
-ghost use Rattle.script.specs.Script.{printed, ScriptClaim};
+ghost use Rattle.script.specs.Script.{printed};
 ghost use Rattle.script_runner.specs.Played.{text_in, after_line, played_as, measured, rehearsed_from, written_into, rehearsed_into};
 
 use answers::Refusal;
@@ -30,7 +30,7 @@ fn put(out: &mut [u8], at: usize, text: &[u8])
 
 // One line of events on a record to which 14 does not apply: its event is done there, or it is unreadable, and what it prints is put at the
 // front of the lent array: its length.
-fn turn(network: &mut Network, l: &[u8], text: &mut [u8; 32]) -> usize
+pub fn turn(network: &mut Network, l: &[u8], text: &mut [u8; 32]) -> usize
     requires { Sized network.old × (valid_network_record network.old ≡ true) }
     ensures network_value { network.new ≡ after_line network.old l.now }
     ensures value { result ≡ length (text_in network.old l.now) }
@@ -133,8 +133,7 @@ fn print_all(network: Network, s: &[u8], out: &mut [u8]) -> Result<usize, Refusa
 
 // A whole script, printed at the front of out, whose rest stays: its length, or 10 where out is too short for its output, and then all of it stays.
 pub fn rehearse(script: &[u8], out: &mut [u8]) -> Result<usize, Refusal>
-    ensures out_after { rehearsed_from result out.new ≡ rehearsed_into script.now out.old }
-    ensures script_claim { ScriptClaim script.now }
+    ensures { rehearsed_from result out.new ≡ rehearsed_into script.now out.old }
 {
     let Some(o) = script_reader::read_opening(script) else {
         return refuse(out);

@@ -1,5 +1,5 @@
 -- Document 01, "Packets" and the writer's refusals: the octets of a packet, and what writing them gives.
-use Rattle.std.specs.Prelude.{ℕ, List, [], ◌∷◌, ◌++◌, cond, length, drop, ltb, Result, Ok, Err}
+use Rattle.std.specs.Prelude.{◌≡◌, refl, ℕ, List, [], ◌∷◌, ◌++◌, map, cond, length, drop, replicate, ltb, Result, Ok, Err}
 use Rattle.lists.specs.Table.{Test, first_of, accepts}
 use Rattle.answers.specs.declared.Refusal.{Refusal}
 use Rattle.answers.specs.Numbers.{refusal_number}
@@ -33,6 +33,18 @@ writer_tests f n =
     ∷ (ltb 64 (length f.context), 9)
     ∷ (ltb n (size_for f), 10)
     ∷ []
+
+-- the refusals of a MOVE-response numbered 4095, with Status 01 and c octets of context, into a buffer of n octets, and one step past each
+abbrev pub response : ℕ → ℕ → ℕ → Fields
+response q t c =
+    record { command = 2; identifier = 0; status = t; station = 2 ∷ 0 ∷ 0 ∷ 0 ∷ 0 ∷ 1 ∷ []; sequence = q; context = replicate c 0 }
+
+pub refused_in_order :
+    map (λ (x : ℕ × Fields). first_of (writer_tests x.1 x.0))
+    ((82, response 4095 1 64) ∷ (82, response 4096 1 64) ∷ (82, response 4095 2 64) ∷ (83, response 4095 1 65) ∷ (81, response 4095 1 64) ∷ [])
+    ≡ 0 ∷ 7 ∷ 8 ∷ 9 ∷ 10 ∷ []
+unfolding writer_tests
+refused_in_order = refl
 
 -- what the writer answers, in numbers, and what the lent buffer then holds
 pub record Writing : Type 0 where

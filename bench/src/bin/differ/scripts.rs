@@ -120,7 +120,7 @@ fn rooms(script: &[u8], length: usize, case: u64) -> [usize; 3] {
     [
         length,
         length.saturating_sub(1 + case as usize % 3 * (case as usize % length.max(1))),
-        32 * script.len() + 38,
+        32 * script.len() + 51,
     ]
 }
 

@@ -107,7 +107,7 @@ pub fn measure(rounds: usize, lines: usize) -> io::Result<()> {
     let mut expected = Vec::new();
     script::run::<false>(&script[..], &mut expected)?;
     // Pages that are not written cost nothing.
-    let mut long = vec![0; 32 * script.len() + 38];
+    let mut long = vec![0; 32 * script.len() + 51];
     rehearse(&script, &mut long, &expected)?;
     assert!(long[..expected.len()] == expected);
     let mut short = vec![0; expected.len()];

@@ -3,8 +3,8 @@
 use Rattle.std.proofs.Common.{◌≡◌, true, sym, ap, ◌∙◌, arith}
 use borrow.Author.Tests.{eqb-true}
 use Rattle.elements.specs.declared.InFlight.{InFlight}
-use Rattle.reader.specs.Read.{Reading, reading_of, read_of}
-use Rattle.reader.proofs.Steps.{answered, within, start_limit, part_is, part_length, accepted_limits}
+use Rattle.reader.specs.Read.{Reading, reading_of, read_as, read_of}
+use Rattle.reader.proofs.Steps.{read_ok, within, start_limit, part_is, part_length, accepted_limits}
 use Rattle.machine.specs.Packets.{readable, octets_in}
 use Rattle.excerpt.specs.Excerpts.{put_back, Seen}
 use Rattle.sending.proofs.Outboxes.{outbox_none}
@@ -20,15 +20,15 @@ accepted p h = eqb-true _ 0 h
 pub returns-then-count-at : goal.returns-then-count-at
 returns-then-count-at c = receive_none c.args.at c.args.count c.args.p c.args.a c.if-count-at.true
 
-pub fields-r-requires : goal.fields-r-requires
+pub unwrap-r-requires : goal.unwrap-r-requires
 unfolding octets_in
-fields-r-requires c = sym (answered (octets_in c.args.p)) ∙ accepted c.args.p (c.requires.len_bound c.if-count-at.false).1
+unwrap-r-requires c = read_ok c.read.result (octets_in c.args.p) c.read.ensures (accepted c.args.p (c.requires.len_bound c.if-count-at.false).1)
 
 pub overflow_add-end : goal.overflow_add-end
 unfolding octets_in
 overflow_add-end c =
     let s = octets_in c.args.p in
-    let e = c.fields-r.ensures in
+    let e = (sym (ap read_as c.unwrap-r.ensures) ∙ c.read.ensures) in
     let a = accepted_limits s (ap (λ (r : Reading). r.answer) (sym e)) in
     omega (arith, start_limit s, a.1, ap (λ (r : Reading). r.start) e, ap (λ (r : Reading). r.len) e)
 
@@ -36,23 +36,23 @@ pub slice_bounds-receive-end : goal.slice_bounds-receive-end
 unfolding octets_in
 slice_bounds-receive-end c =
     let s = octets_in c.args.p in
-    let e = c.fields-r.ensures in
+    let e = (sym (ap read_as c.unwrap-r.ensures) ∙ c.read.ensures) in
     omega (arith, within s, ap (λ (r : Reading). r.start) e, ap (λ (r : Reading). r.len) e)
 
 pub receive-h-requires-clause-context_len_bound : goal.receive-h-requires-clause-context_len_bound
 unfolding octets_in
 receive-h-requires-clause-context_len_bound c =
     let s = octets_in c.args.p in
-    let e = c.fields-r.ensures in
+    let e = (sym (ap read_as c.unwrap-r.ensures) ∙ c.read.ensures) in
     let a = accepted_limits s (ap (λ (r : Reading). r.answer) (sym e)) in
-    omega (arith, part_length s (reading_of c.fields-r.result) e, a.1)
+    omega (arith, part_length s (reading_of c.unwrap-r.result) e, a.1)
 
 pub response-requires : goal.response-requires
 unfolding octets_in
 response-requires c =
     let s = octets_in c.args.p in
-    let e = c.fields-r.ensures in
-    let seen : Seen c.fields-r.result.station c.args.a c.of-x.result = record { usable = c.requires.usable; rows = omega arith; moves = omega arith; same = c.of-x.ensures } in
+    let e = (sym (ap read_as c.unwrap-r.ensures) ∙ c.read.ensures) in
+    let seen : Seen c.unwrap-r.result.station c.args.a c.of-x.result = record { usable = c.requires.usable; rows = omega arith; moves = omega arith; same = c.of-x.ensures } in
     let a = accepted_limits s (ap (λ (r : Reading). r.answer) (sym e)) in
     (rw c.in-Some.is at (c.receive-h.ensures.len_bound c.args.a seen), omega (arith, a.0, ap (λ (r : Reading). r.sequence) e))
 
@@ -61,9 +61,9 @@ unfolding octets_in
 returns c =
     let a = c.args.a in
     let p = c.args.p in
-    let r = reading_of c.fields-r.result in
-    let e = c.fields-r.ensures in
-    let seen : Seen c.fields-r.result.station a c.of-x.result = record { usable = c.requires.usable; rows = omega arith; moves = omega arith; same = c.of-x.ensures } in
+    let r = reading_of c.unwrap-r.result in
+    let e = (sym (ap read_as c.unwrap-r.ensures) ∙ c.read.ensures) in
+    let seen : Seen c.unwrap-r.result.station a c.of-x.result = record { usable = c.requires.usable; rows = omega arith; moves = omega arith; same = c.of-x.ensures } in
     let h = c.receive-h in
     let part = part_is (octets_in p) r e in
     rw c.put_back-point.ensures

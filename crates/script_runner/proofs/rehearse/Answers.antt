@@ -13,7 +13,7 @@ use Rattle.script.specs.Text.{lines}
 use Rattle.script.specs.SetUpLines.{set_up_in}
 use Rattle.script.specs.Result.{result_names}
 use Rattle.script.specs.Script.{printed, output_of}
-use Rattle.script.proofs.Runs.{output_is, output_bad, script_claim}
+use Rattle.script.proofs.Runs.{output_is, output_bad}
 use Rattle.script_reader.specs.Heard.{three_lines, Opening, opening_from, nothing_opened}
 use Rattle.script_runner.specs.Played.{written_into}
 use Rattle.script_runner.proofs.Whole.{values_of, opened_bad, opened, accepted, new_network_lem, network_valid, next_there, lines_after}
@@ -25,10 +25,7 @@ pub returns-in_default : goal.returns-in_default
 unfolding nothing_opened
 returns-in_default c =
     let g = opened_bad c.args.script.now nothing_opened c.in_default.ensures refl in
-    record {
-      out_after = c.refuse.ensures ∙ ap (λ (t : List ℕ). written_into t c.args.out.now) (sym (output_bad c.args.script.now g));
-      script_claim = script_claim c.args.script.now;
-    }
+    c.refuse.ensures ∙ ap (λ (t : List ℕ). written_into t c.args.out.now) (sym (output_bad c.args.script.now g))
 
 -- the set-up that was read is one that is accepted
 pub returns-in_default-set_up : goal.returns-in_default-set_up
@@ -58,10 +55,6 @@ pub returns : goal.returns
 returns c =
     let x = opening_from (Some c.in-Some.o) in
     let s = c.args.script.now in
-    record {
-      out_after =
-          c.print_all.ensures
-          ∙ ap (λ (t : List ℕ). written_into t c.args.out.now)
-          (output s _ x c.in-Ok.network (opened s x c.in-Some.ensures refl) (new_network_lem s x c.in-Some.ensures refl (set_up_of (Ok c.in-Ok.network)) c.in-Ok.ensures) (rest_from s _));
-      script_claim = script_claim s;
-    }
+    c.print_all.ensures
+    ∙ ap (λ (t : List ℕ). written_into t c.args.out.now)
+    (output s _ x c.in-Ok.network (opened s x c.in-Some.ensures refl) (new_network_lem s x c.in-Some.ensures refl (set_up_of (Ok c.in-Ok.network)) c.in-Ok.ensures) (rest_from s _))

@@ -9,12 +9,12 @@ use Rattle.vectors.proofs.prints.Goals as goal
 
 pub slice_bounds-same_text-end : goal.slice_bounds-same_text-end
 slice_bounds-same_text-end g c =
-    (placed (output_of c.args.script.now) c.args.out.now (rehearsed_from (Ok c.in-Ok.n) c.rehearse.new.out) c.in-Ok.ensures.out_after refl).0
+    (placed (output_of c.args.script.now) c.args.out.now (rehearsed_from (Ok c.in-Ok.n) c.rehearse.new.out) c.in-Ok.ensures refl).0
 
 pub slice_bounds-same_text-end-in-Ok : goal.slice_bounds-same_text-end-in-Ok
 slice_bounds-same_text-end-in-Ok g c =
-    sym (length-take-le c.in-Ok.n c.rehearse.new.out (placed (output_of c.args.script.now) c.args.out.now (rehearsed_from (Ok c.in-Ok.n) c.rehearse.new.out) c.in-Ok.ensures.out_after refl).0)
+    sym (length-take-le c.in-Ok.n c.rehearse.new.out (placed (output_of c.args.script.now) c.args.out.now (rehearsed_from (Ok c.in-Ok.n) c.rehearse.new.out) c.in-Ok.ensures refl).0)
 
 pub returns-in-Ok : goal.returns-in-Ok
 returns-in-Ok g c =
-    λ q. sym (placed (output_of c.args.script.now) c.args.out.now (rehearsed_from (Ok c.in-Ok.n) c.rehearse.new.out) c.in-Ok.ensures.out_after refl).1 ∙ c.same_text.ensures q
+    λ q. sym (placed (output_of c.args.script.now) c.args.out.now (rehearsed_from (Ok c.in-Ok.n) c.rehearse.new.out) c.in-Ok.ensures refl).1 ∙ c.same_text.ensures q
