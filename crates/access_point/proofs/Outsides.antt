@@ -12,7 +12,7 @@ use Rattle.machine.specs.Packets.{packet_of}
 use Rattle.machine.specs.AccessPoint.{Action, receive}
 use Rattle.machine.specs.Valid.{valid_setup}
 use Rattle.machine.specs.Lone.{valid_lone, action_on, written_all, outside_tests, with_point, outside}
-use Rattle.record.specs.declared.LoneAccessPoint.{LoneAccessPoint}
+use Rattle.structs.specs.declared.LoneAccessPoint.{LoneAccessPoint}
 use Rattle.record.specs.Lens.{get_point, put_point, get_lone, put_lone}
 use Rattle.record.specs.Valid.{valid_record, valid_lone_record, Usable}
 use Rattle.record.proofs.LensLaws.{Fits, point_kept}

@@ -10,8 +10,8 @@ use Rattle.machine.specs.Packets.{Packet, fields_as, written}
 use Rattle.machine.specs.AccessPoint.{answer_to, receive}
 use Rattle.machine.specs.Lone.{written_all}
 use Rattle.machine.proofs.Wire.{context_in}
-use Rattle.record.specs.declared.AccessPoint.{AccessPoint}
-use Rattle.record.specs.declared.LoneAccessPoint.{LoneAccessPoint}
+use Rattle.structs.specs.declared.AccessPoint.{AccessPoint}
+use Rattle.structs.specs.declared.LoneAccessPoint.{LoneAccessPoint}
 use Rattle.record.specs.Lens.{get_point, put_point}
 use Rattle.receiving.specs.declared.Reply.{Reply}
 use Rattle.receiving.specs.declared.Reply.TheVariants.{Successful, StaleMove}

@@ -5,15 +5,17 @@ use lib.ListN.{length-map}
 use Rattle.machine.specs.Packets.{Outgoing}
 use Rattle.machine.specs.Moves.{Open, counts_after, notice_of, notices_of, kept, resends, lapsed, ticking}
 use Rattle.machine.specs.AccessPoint.{with_moves, tick_by}
-use Rattle.record.specs.declared.AccessPoint.{AccessPoint}
-use Rattle.record.specs.Lens.{no_moves, get_moves, put_moves, named, bare, get_point}
-use Rattle.record.proofs.LensLaws.{Fits, associations_kept, put_parts}
+use Rattle.structs.specs.declared.AccessPoint.{AccessPoint}
+use Rattle.record.specs.Lens.{named, bare, get_point}
+use Rattle.structs.specs.Lists.{no_moves, get_moves, put_moves}
+use Rattle.record.proofs.LensLaws.{Fits, put_parts}
+use Rattle.structs.proofs.Lists.{associations_kept}
 use Rattle.moves.proofs.Laws.{counted_none, counted_all, resends_few}
 use Rattle.access_point.specs.Tick.{tick_done}
-use Rattle.record.specs.declared.Moves.{Moves}
+use Rattle.structs.specs.declared.Moves.{Moves}
 use lib.Seq.{length-take-le}
 use Rattle.slots.proofs.Over.{take_over}
-use Rattle.elements.specs.Blanks.{no_move}
+use Rattle.structs.specs.Blanks.{no_move}
 
 -- a notice does not tell a move's name
 notices_bare : (ms : List Open) → notices_of (map named (map bare ms)) ≡ notices_of ms

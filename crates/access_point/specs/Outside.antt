@@ -7,8 +7,8 @@ use Rattle.reader.specs.declared.Received.{Received}
 use Rattle.machine.specs.Packets.{Packet, fields_as}
 use Rattle.machine.specs.AccessPoint.{receive}
 use Rattle.machine.specs.Lone.{LoneAnswer, written_all, outside}
-use Rattle.record.specs.declared.AccessPoint.{AccessPoint}
-use Rattle.record.specs.declared.LoneAccessPoint.{LoneAccessPoint}
+use Rattle.structs.specs.declared.AccessPoint.{AccessPoint}
+use Rattle.structs.specs.declared.LoneAccessPoint.{LoneAccessPoint}
 use Rattle.record.specs.Lens.{get_point, put_point, get_lone, put_lone}
 use Rattle.record.specs.Valid.{valid_lone_record}
 use Rattle.receiving.specs.declared.Reply.{Reply}

@@ -2,8 +2,9 @@
 use Rattle.std.specs.Prelude.{ℕ, map, length}
 use Rattle.machine.specs.Moves.{resends}
 use Rattle.machine.specs.AccessPoint.{tick_by}
-use Rattle.record.specs.declared.AccessPoint.{AccessPoint}
-use Rattle.record.specs.Lens.{no_moves, get_moves, put_moves, named, bare, get_point, put_point}
+use Rattle.structs.specs.declared.AccessPoint.{AccessPoint}
+use Rattle.record.specs.Lens.{named, bare, get_point, put_point}
+use Rattle.structs.specs.Lists.{no_moves, get_moves, put_moves}
 use Rattle.access_point.specs.declared.Ticking.{Ticking}
 
 -- what the machine's access point does, put back into the record: the record afterwards, the moves that are sent again, in order, and

@@ -16,7 +16,7 @@ use answers::Refusal;
 use packet::{Command, Packet};
 use reader::Received;
 use receiving::Reply;
-use record::{AccessPoint, LoneAccessPoint, Moves};
+use structs::{AccessPoint, LoneAccessPoint, Moves};
 
 // What a tick leaves: the record, the moves whose notice is sent again, and how many were given up.
 #[derive(Clone, Copy)]

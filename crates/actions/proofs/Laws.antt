@@ -14,8 +14,8 @@ use Rattle.lists.specs.Places.{every}
 use Rattle.lists.proofs.Choices.{and_left, and_right, and_true}
 use Rattle.lists.proofs.Fronts.{exact_ind}
 use Rattle.reader.specs.Read.{Reading, read_of, context_of}
-use Rattle.elements.specs.declared.InFlight.{InFlight}
-use Rattle.elements.specs.declared.Move.{Move}
+use Rattle.structs.specs.declared.InFlight.{InFlight}
+use Rattle.structs.specs.declared.Move.{Move}
 use Rattle.machine.specs.Stations.{Station, is_group}
 use Rattle.machine.specs.Packets.{stale_move, Packet, Outgoing, packet_of, octets_in, carried}
 use Rattle.machine.specs.Moves.{Open, nothing, opening, answering, waits, again, lapses, timed, fate, resent_by, resends, notices_of}
@@ -23,8 +23,9 @@ use Rattle.machine.specs.AccessPoint as machine
 use Rattle.machine.specs.AccessPoint.{quietly, another, this, nowhere, origin_of, join_tests, join_from, leave_by, tick_by, answer_to, answering_with, receive}
 use Rattle.machine.specs.Events.{group_address}
 use Rattle.machine.proofs.Parts.{by_receipt}
-use Rattle.record.specs.declared.AccessPoint.{AccessPoint}
-use Rattle.record.specs.Lens.{no_moves, get_moves, named, bare, get_point, put_point}
+use Rattle.structs.specs.declared.AccessPoint.{AccessPoint}
+use Rattle.record.specs.Lens.{named, bare, get_point, put_point}
+use Rattle.structs.specs.Lists.{no_moves, get_moves}
 use Rattle.joining.specs.declared.Notice.TheVariants.{Silent}
 use Rattle.joining.specs.Join as joining
 use Rattle.joining.specs.Join.{sends_by, notice_from, join_done}
@@ -37,9 +38,9 @@ use Rattle.access_point.proofs.Ticks.{due_sends}
 use Rattle.in_flight.specs.Post.{outbox_of}
 use Rattle.sending.specs.Sends.{sequence_within}
 use Rattle.actions.specs.Done.{Done, unchanged_by, done_by, decided, off_floor, no_packet, tests_of_join, join_of, leave_of, tick_of, receive_of, lose_of}
-use Rattle.in_flight.specs.declared.Outbox.{Outbox}
+use Rattle.structs.specs.declared.Outbox.{Outbox}
 use Rattle.slots.proofs.Over.{take_over}
-use Rattle.elements.specs.Blanks.{no_move}
+use Rattle.structs.specs.Blanks.{no_move}
 
 -- the tests decide
 

@@ -4,19 +4,19 @@ use Rattle.lists.specs.Table.{Test, first_of, accepts}
 use Rattle.answers.specs.declared.Refusal.{Refusal}
 use Rattle.answers.specs.Numbers.{refusal_number}
 use Rattle.reader.specs.Read.{read_of, context_of}
-use Rattle.elements.specs.declared.InFlight.{InFlight}
+use Rattle.structs.specs.declared.InFlight.{InFlight}
 use Rattle.machine.specs.Stations.{Station}
 use Rattle.machine.specs.Packets.{packet_of, octets_in, carried}
 use Rattle.machine.specs.AccessPoint as machine
 use Rattle.machine.specs.AccessPoint.{origin_of, join_tests, join_from, leave_by, tick_by, receive}
 use Rattle.machine.specs.Events.{group_address}
-use Rattle.record.specs.declared.AccessPoint.{AccessPoint}
+use Rattle.structs.specs.declared.AccessPoint.{AccessPoint}
 use Rattle.record.specs.Lens.{get_point, put_point}
 use Rattle.in_flight.specs.Post.{outbox_of}
 use Rattle.excerpt.specs.Excerpts.{put_back}
 use Rattle.actions.specs.declared.Action.{Action}
 use Rattle.actions.specs.declared.Joining.{Joining}
-use Rattle.in_flight.specs.declared.Outbox.{Outbox}
+use Rattle.structs.specs.declared.Outbox.{Outbox}
 
 -- the answer, the record afterwards, the packets sent and how many moves were given up
 pub record Done : Type 0 where

@@ -5,7 +5,7 @@ ghost use Rattle.std.specs.Prelude.{◌≡◌, true, [], map, ◌≤◌, ◌<◌
 ghost use Rattle.machine.specs.Stations.{is_group};
 ghost use Rattle.lists.specs.Places.{every};
 ghost use Rattle.machine.specs.Packets.{carried, readable, octets_in};
-ghost use Rattle.record.specs.Lens.{get_moves};
+ghost use Rattle.structs.specs.Lists.{get_moves};
 ghost use Rattle.record.specs.Valid.{Usable};
 ghost use Rattle.sending.specs.Sends.{sequence_within};
 ghost use Rattle.in_flight.specs.Post.{outbox_of};
@@ -14,11 +14,9 @@ ghost use Rattle.joining.specs.Join.{sends_by};
 ghost use Rattle.actions.specs.Done.{quietly, done_of, joining_of, join_of, leave_of, tick_of, receive_of, lose_of};
 
 use answers::Refusal;
-use elements::InFlight;
 use excerpt::Excerpt;
-use in_flight::Outbox;
-use joining::{Notice, Request};
-use record::{AccessPoint, Setup};
+use joining::Notice;
+use structs::{AccessPoint, InFlight, Outbox, Request, Setup};
 
 // What an accepted event does: the record afterwards, the packets sent, and how many moves were given up.
 #[derive(Clone, Copy)]

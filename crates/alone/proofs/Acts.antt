@@ -20,9 +20,10 @@ use Rattle.machine.specs.Events.{group_address, holds}
 use Rattle.machine.specs.Lone.{written_all}
 use Rattle.machine.specs.Moves.{nothing}
 use Rattle.machine.proofs.Wire.{carried_octets}
-use Rattle.record.specs.declared.AccessPoint.{AccessPoint}
-use Rattle.record.specs.declared.LoneAccessPoint.{LoneAccessPoint}
-use Rattle.record.specs.Lens.{get_associations, get_point, put_point}
+use Rattle.structs.specs.declared.AccessPoint.{AccessPoint}
+use Rattle.structs.specs.declared.LoneAccessPoint.{LoneAccessPoint}
+use Rattle.record.specs.Lens.{get_point, put_point}
+use Rattle.structs.specs.Lists.{get_associations}
 use Rattle.record.specs.Valid.{valid_lone_record}
 use Rattle.associations.specs.Rows.{is_of}
 use Rattle.associations.proofs.Laws.{holds_at}
@@ -33,7 +34,7 @@ use Rattle.actions.specs.Done.{Done, done_by, unchanged_by, decided, off_floor, 
 use Rattle.alone.specs.Told.{Told, told_of, reply_with, answered, receivers_of, reply_to, front_of, done_alone, too_short, acts_unless, not_valid_test, join_alone, leave_alone, tick_alone, who_alone}
 use Rattle.alone.specs.Front.{octets_in_all, receiver, outbox_octets, outbox_receivers, Posted, posted_of, posted_into, tell}
 use Rattle.alone.proofs.Within.{number_within}
-use Rattle.in_flight.specs.declared.Outbox.{Outbox}
+use Rattle.structs.specs.declared.Outbox.{Outbox}
 use lib.Seq.{length-take-le}
 
 -- What is posted

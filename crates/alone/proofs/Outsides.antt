@@ -20,7 +20,7 @@ use Rattle.machine.specs.AccessPoint as machine
 use Rattle.machine.specs.AccessPoint.{quietly, answer_to, answering_with, receive}
 use Rattle.machine.specs.Lone.{LoneAnswer, valid_lone, action_on, written_all, outside_tests, with_point, outside}
 use Rattle.machine.proofs.Parts.{by_receipt}
-use Rattle.record.specs.declared.LoneAccessPoint.{LoneAccessPoint}
+use Rattle.structs.specs.declared.LoneAccessPoint.{LoneAccessPoint}
 use Rattle.record.specs.Lens.{get_point, get_lone, put_lone}
 use Rattle.record.specs.Valid.{valid_lone_record}
 use Rattle.record.proofs.LensLaws.{Fits, point_kept}

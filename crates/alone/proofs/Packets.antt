@@ -15,7 +15,7 @@ use Rattle.lists.specs.Places.{All, nil, cons}
 use Rattle.lists.proofs.Copies.{put_back_lem}
 use Rattle.lists.proofs.Fronts.{rest_from}
 use Rattle.lists.proofs.Every.{all_at}
-use Rattle.elements.specs.declared.InFlight.{InFlight}
+use Rattle.structs.specs.declared.InFlight.{InFlight}
 use Rattle.machine.specs.Associations.{padded}
 use Rattle.machine.specs.Packets.{octets_in}
 use Rattle.alone.specs.Told.{front_of}

@@ -13,23 +13,24 @@ use Rattle.lists.specs.Table.{Test, first_of, accepts}
 use Rattle.lists.specs.Places.{All, nil, cons}
 use Rattle.lists.proofs.Bools.{by_cond}
 use Rattle.lists.proofs.Every.{all_take}
-use Rattle.elements.specs.declared.InFlight.{InFlight}
-use Rattle.elements.specs.contracts.InFlight as F
+use Rattle.structs.specs.declared.InFlight.{InFlight}
+use Rattle.structs.specs.contracts.InFlight as F
 use Rattle.machine.specs.Associations.{padded}
 use Rattle.machine.specs.Packets.{Outgoing, written, carried}
 use Rattle.machine.specs.AccessPoint as machine
-use Rattle.record.specs.declared.AccessPoint.{AccessPoint}
+use Rattle.structs.specs.declared.AccessPoint.{AccessPoint}
 use Rattle.slots.proofs.Over.{over_new}
 use Rattle.network.proofs.Sizes.{each_all}
-use Rattle.in_flight.specs.Post.{get_outbox, outbox_of}
+use Rattle.in_flight.specs.Post.{outbox_of}
+use Rattle.structs.specs.Lists.{get_outbox}
 use Rattle.in_flight.proofs.Posted.{outbox_got}
 use Rattle.actions.specs.declared.Action.{Action}
 use Rattle.actions.specs.Done.{Done, done_by, decided}
 use Rattle.actions.specs.declared.Joining.{Joining}
 use Rattle.actions.specs.contracts.Action as A
 use Rattle.alone.specs.Front.{Sized, Packed}
-use Rattle.in_flight.specs.declared.Outbox.{Outbox}
-use Rattle.elements.specs.Blanks.{no_in_flight}
+use Rattle.structs.specs.declared.Outbox.{Outbox}
+use Rattle.structs.specs.Blanks.{no_in_flight}
 use Rattle.actions.specs.contracts.Joining as J
 use Rattle.alone.specs.Front.{Sized, Packed, Sends}
 

@@ -12,15 +12,16 @@ use lib.ListN.{length}
 use mir.Val.{Val}
 use Rattle.lists.specs.Places.{every}
 use Rattle.lists.proofs.Choices.{and_left, and_right, and_true}
-use Rattle.elements.specs.declared.Move.{Move}
+use Rattle.structs.specs.declared.Move.{Move}
 use Rattle.machine.specs.Stations.{Station}
 use Rattle.machine.specs.Valid.{valid_association, distinct, valid_move, valid_point, valid_setup}
 use Rattle.machine.specs.Lone.{valid_lone}
 use Rattle.machine.proofs.Valid.{setup_in}
-use Rattle.record.specs.contracts.AccessPoint as A
-use Rattle.record.specs.declared.AccessPoint.{AccessPoint}
-use Rattle.record.specs.declared.LoneAccessPoint.{LoneAccessPoint}
-use Rattle.record.specs.Lens.{get_associations, get_moves, named, get_point, get_lone}
+use Rattle.structs.specs.contracts.AccessPoint as A
+use Rattle.structs.specs.declared.AccessPoint.{AccessPoint}
+use Rattle.structs.specs.declared.LoneAccessPoint.{LoneAccessPoint}
+use Rattle.record.specs.Lens.{named, get_point, get_lone}
+use Rattle.structs.specs.Lists.{get_associations, get_moves}
 use Rattle.record.specs.Valid.{valid_record, valid_lone_record}
 use Rattle.record.proofs.Sizes.{fits}
 use Rattle.access_point.proofs.Outsides.{usable}

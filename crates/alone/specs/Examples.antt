@@ -12,13 +12,13 @@ use Rattle.machine.specs.Events.{group_address, holds}
 use Rattle.machine.specs.Network.{setup_tests}
 use Rattle.machine.specs.Lone.{written_all}
 use Rattle.machine.specs.Valid.{valid_association, distinct, valid_move, valid_point, valid_setup}
-use Rattle.record.specs.declared.LoneAccessPoint.{LoneAccessPoint}
+use Rattle.structs.specs.declared.LoneAccessPoint.{LoneAccessPoint}
 use Rattle.record.specs.Lens.{named, bare, get_point, put_point}
 use Rattle.record.specs.Valid.{valid_record, valid_lone_record}
 use Rattle.network.specs.Lens.{new_point}
 use Rattle.alone.specs.Told.{Told, reply_with, answered, reply_to, done_alone, acts_unless, set_up_alone, old_named, join_alone, tick_alone, who_alone}
 use Rattle.slots.specs.Lists.{over}
-use Rattle.elements.specs.Blanks.{no_association, no_move}
+use Rattle.structs.specs.Blanks.{no_association, no_move}
 
 -- the station 02 00 00 00 00 01, and a group of stations
 abbrev station : Station

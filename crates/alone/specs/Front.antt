@@ -3,14 +3,15 @@ use Rattle.std.specs.Prelude.{ℕ, ◌≤◌, ◌≡◌, cond, List, map, ltb, l
 use Rattle.std.specs.List.{flat_map}
 use Rattle.lists.specs.Table.{accepts}
 use Rattle.lists.specs.Places.{All}
-use Rattle.elements.specs.declared.InFlight.{InFlight}
+use Rattle.structs.specs.declared.InFlight.{InFlight}
 use Rattle.machine.specs.Associations.{padded}
 use Rattle.machine.specs.Packets.{Outgoing, octets_in, carried}
-use Rattle.record.specs.declared.LoneAccessPoint.{LoneAccessPoint}
+use Rattle.structs.specs.declared.LoneAccessPoint.{LoneAccessPoint}
 use Rattle.access_point.specs.Outside.{with_record}
 use Rattle.actions.specs.Done.{Done}
-use Rattle.in_flight.specs.declared.Outbox.{Outbox}
-use Rattle.in_flight.specs.Post.{get_outbox, outbox_of}
+use Rattle.structs.specs.declared.Outbox.{Outbox}
+use Rattle.in_flight.specs.Post.{outbox_of}
+use Rattle.structs.specs.Lists.{get_outbox}
 use Rattle.alone.specs.declared.Reply.{Reply}
 use Rattle.alone.specs.Told.{Told, told_of, reply_with, front_of}
 

@@ -13,7 +13,7 @@ use Rattle.machine.specs.Events.{group_address, holds}
 use Rattle.machine.specs.Network.{setup_tests}
 use Rattle.machine.specs.Lone.{written_all, action_on}
 use Rattle.machine.specs.Valid.{valid_setup}
-use Rattle.record.specs.declared.LoneAccessPoint.{LoneAccessPoint}
+use Rattle.structs.specs.declared.LoneAccessPoint.{LoneAccessPoint}
 use Rattle.record.specs.Lens.{get_point, put_point, get_lone}
 use Rattle.record.specs.Valid.{valid_lone_record}
 use Rattle.access_point.specs.Outside.{with_record}

@@ -11,10 +11,7 @@ ghost use Rattle.alone.specs.Front.{len_of, outbox_octets, outbox_receivers, Pac
 
 use actions::{Action, Joining};
 use answers::{Answer, Refusal};
-use elements::InFlight;
-use in_flight::Outbox;
-use joining::Request;
-use record::{LoneAccessPoint, Setup};
+use structs::{InFlight, LoneAccessPoint, Outbox, Request, Setup};
 
 // What a call answers: document 01's number, how many packets were written and how many moves given up, whether the station has a
 // row, the receivers of the packets in order, and the length written. What a call has no use for is 0. Stays numbers, since C is given it.

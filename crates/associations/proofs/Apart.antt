@@ -17,7 +17,7 @@ use Rattle.std.proofs.lemmas.List.Quantifiers.{position-Some}
 use Rattle.std.proofs.lemmas.List.Sums.{prefix_len_passes}
 use Rattle.lists.proofs.Choices.{and_false, not_both}
 use Rattle.lists.proofs.Every.{get_or_set}
-use Rattle.elements.specs.declared.Association.{Association}
+use Rattle.structs.specs.declared.Association.{Association}
 use Rattle.machine.specs.Stations.{same}
 use Rattle.machine.specs.Associations.{sequence_of}
 use Rattle.machine.specs.Valid.{distinct}

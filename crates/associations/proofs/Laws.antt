@@ -17,7 +17,7 @@ use Rattle.lists.proofs.Bools.{by_cond}
 use Rattle.lists.proofs.Choices.{and_left, and_right, not_both}
 use Rattle.lists.proofs.Search.{length_without}
 use Rattle.sequence.specs.Distance.{newer_of}
-use Rattle.elements.specs.declared.Association.{Association}
+use Rattle.structs.specs.declared.Association.{Association}
 use Rattle.machine.specs.Stations.{same}
 use Rattle.machine.proofs.Stations.{same_true}
 use Rattle.machine.specs.Associations.{given, association, sequence_of, held_context, associate, dissociate, dissociate_older, dissociate_exactly, fill}

@@ -1,6 +1,6 @@
 -- What a search of an access point's table looks for.
 use Rattle.std.specs.Prelude.{ℕ, Bool, List}
-use Rattle.elements.specs.declared.Association.{Association}
+use Rattle.structs.specs.declared.Association.{Association}
 use Rattle.machine.specs.Stations.{same}
 
 -- whether a row is the station's

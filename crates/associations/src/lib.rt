@@ -7,11 +7,10 @@ ghost use Rattle.lists.specs.Places.{every};
 ghost use Rattle.lists.specs.Search.{index_by};
 ghost use Rattle.machine.specs.Associations.{association, given};
 ghost use Rattle.machine.specs.Valid.{valid_association, distinct};
-ghost use Rattle.record.specs.Lens.{get_associations};
+ghost use Rattle.structs.specs.Lists.{get_associations};
 ghost use Rattle.associations.specs.Rows.{is_of};
 
-use elements::Association;
-use record::Associations;
+use structs::{Association, Associations};
 
 // Whether a row is the station's.
 fn is_of(row: &Association, station: [u8; 6]) -> bool

@@ -12,12 +12,12 @@ use Rattle.machine.specs.Stations.{Station, is_group}
 use Rattle.machine.specs.Moves.{nothing}
 use Rattle.machine.specs.Events.{who, group_address, event_tests, refusal, given_up_count, held_by, ones_in, accepted, step}
 use Rattle.record.specs.Lens.{get_point}
-use Rattle.network.specs.declared.Network.{Network}
+use Rattle.structs.specs.declared.Network.{Network}
 use Rattle.network.specs.Lens.{get}
 use Rattle.network.specs.Events.{line_of, reply_of, refused}
 use Rattle.network.proofs.LensLaws.{NetworkFits, put_get}
-use Rattle.events.specs.declared.Kind.{Kind}
-use Rattle.events.specs.declared.Kind.TheVariants.{Join, Leave, Deliver, Repeat, Lose, Tick, Who}
+use Rattle.structs.specs.declared.Kind.{Kind}
+use Rattle.structs.specs.declared.Kind.TheVariants.{Join, Leave, Deliver, Repeat, Lose, Tick, Who}
 use Rattle.events.specs.Event.{is_who, event_as}
 use Rattle.events.proofs.Held.{ones_counted}
 use Rattle.events.proofs.Stored.{refused_is}

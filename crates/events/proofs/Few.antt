@@ -8,22 +8,23 @@ use native.Mathlib.Omega.{arith}
 use lib.ListN.{length, length-map, length-take}
 use Rattle.lists.specs.Table.{Test, first_of, accepts}
 use Rattle.lists.proofs.Bools.{by_cond}
-use Rattle.elements.specs.declared.InFlight.{InFlight}
+use Rattle.structs.specs.declared.InFlight.{InFlight}
 use Rattle.machine.specs.Stations.{Station}
 use Rattle.machine.specs.Packets.{add_notify, Packet, carried}
 use Rattle.machine.specs.Moves.{Open, notices_of, resends}
 use Rattle.machine.specs.AccessPoint as machine
 use Rattle.machine.specs.AccessPoint.{quietly, another, this, nowhere, Origin, join_from, leave_by, tick_by, answering_with, receive}
 use Rattle.machine.proofs.Parts.{by_receipt}
-use Rattle.record.specs.declared.AccessPoint.{AccessPoint}
-use Rattle.record.specs.Lens.{get_moves, named, get_point}
+use Rattle.structs.specs.declared.AccessPoint.{AccessPoint}
+use Rattle.record.specs.Lens.{named, get_point}
+use Rattle.structs.specs.Lists.{get_moves}
 use Rattle.record.specs.Valid.{Usable}
 use Rattle.moves.proofs.Laws.{resends_few}
 use Rattle.in_flight.specs.Post.{outbox_of}
 use Rattle.sending.proofs.Notices.{notifies_few}
 use Rattle.actions.specs.Done.{Done, unchanged_by, done_by, decided, no_packet, join_of, leave_of, tick_of, receive_of, lose_of}
-use Rattle.events.specs.declared.Kind.{Kind}
-use Rattle.events.specs.declared.Kind.TheVariants.{Join, Leave, Deliver, Repeat, Lose, Tick, Who}
+use Rattle.structs.specs.declared.Kind.{Kind}
+use Rattle.structs.specs.declared.Kind.TheVariants.{Join, Leave, Deliver, Repeat, Lose, Tick, Who}
 use Rattle.events.specs.Apart.{action_for}
 
 abbrev FewSends : machine.Action → Type 0

@@ -16,8 +16,9 @@ use Rattle.machine.specs.Stations.{Station}
 use Rattle.machine.specs.AccessPoint as machine
 use Rattle.machine.specs.Events.{holds, held_by, ones_in}
 use Rattle.machine.proofs.Held as held
-use Rattle.record.specs.declared.AccessPoint.{AccessPoint}
-use Rattle.record.specs.Lens.{get_associations, get_point}
+use Rattle.structs.specs.declared.AccessPoint.{AccessPoint}
+use Rattle.record.specs.Lens.{get_point}
+use Rattle.structs.specs.Lists.{get_associations}
 use Rattle.associations.specs.Rows.{is_of}
 use Rattle.associations.proofs.Laws.{holds_at}
 

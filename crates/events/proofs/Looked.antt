@@ -9,13 +9,13 @@ use lib.Dec.{ltb}
 use lib.ListN.{get_or}
 use Rattle.lists.proofs.Bools.{by_cond}
 use Rattle.lists.proofs.Choices.{not_both}
-use Rattle.elements.specs.declared.InFlight.{InFlight}
+use Rattle.structs.specs.declared.InFlight.{InFlight}
 use Rattle.machine.specs.Packets.{readable, octets_in}
-use Rattle.network.specs.declared.Network.{Network}
+use Rattle.structs.specs.declared.Network.{Network}
 use Rattle.network.specs.Events.{valid_network_record}
 use Rattle.network.proofs.LensLaws.{NetworkFits}
-use Rattle.events.specs.declared.Kind.{Kind}
-use Rattle.events.specs.declared.Kind.TheVariants.{Join, Leave, Deliver, Repeat, Lose, Tick, Who}
+use Rattle.structs.specs.declared.Kind.{Kind}
+use Rattle.structs.specs.declared.Kind.TheVariants.{Join, Leave, Deliver, Repeat, Lose, Tick, Who}
 use Rattle.events.specs.Apart.{packet_for, point_for, taken_for}
 use Rattle.events.proofs.Within.{packet_at, setup_within}
 

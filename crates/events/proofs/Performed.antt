@@ -14,7 +14,7 @@ use Rattle.lists.specs.Table.{Test, first_of, accepts}
 use Rattle.lists.specs.Places.{nth, without}
 use Rattle.lists.proofs.Choices.{and_false, not_both, by_bool}
 use Rattle.reader.specs.Read.{read_of, context_of}
-use Rattle.elements.specs.declared.InFlight.{InFlight}
+use Rattle.structs.specs.declared.InFlight.{InFlight}
 use Rattle.machine.specs.Stations.{Station}
 use Rattle.machine.specs.Packets.{packet_of, readable, packet_in, octets_in}
 use Rattle.machine.specs.AccessPoint as machine
@@ -22,16 +22,17 @@ use Rattle.machine.specs.AccessPoint.{origin_of, join_tests, join_from, leave_by
 use Rattle.machine.specs.Network as floor
 use Rattle.machine.specs.Network.{access_point_at, set_in_flight}
 use Rattle.machine.specs.Events.{Event, join, leave, deliver, repeat, lose, tick, unknown_point, unknown_packet, group_address, event_tests, refusal, Outcome, quiet, act, receive_frame, receive_at, accepted, step}
-use Rattle.record.specs.declared.AccessPoint.{AccessPoint}
+use Rattle.structs.specs.declared.AccessPoint.{AccessPoint}
 use Rattle.record.specs.Lens.{get_point}
-use Rattle.network.specs.declared.Network.{Network}
-use Rattle.network.specs.Lens.{get_in_flight, get}
+use Rattle.structs.specs.declared.Network.{Network}
+use Rattle.network.specs.Lens.{get}
+use Rattle.structs.specs.Lists.{get_in_flight}
 use Rattle.network.specs.Events.{valid_network_record, reply_of}
 use Rattle.network.proofs.LensLaws.{NetworkFits}
 use Rattle.network.proofs.Lent.{got_count}
 use Rattle.actions.specs.Done.{Done, unchanged_by, done_by, decided, off_floor, no_packet, join_of, leave_of, tick_of, receive_of, lose_of}
-use Rattle.events.specs.declared.Kind.{Kind}
-use Rattle.events.specs.declared.Kind.TheVariants.{Join, Leave, Deliver, Repeat, Lose, Tick, Who}
+use Rattle.structs.specs.declared.Kind.{Kind}
+use Rattle.structs.specs.declared.Kind.TheVariants.{Join, Leave, Deliver, Repeat, Lose, Tick, Who}
 use Rattle.events.specs.Event.{is_who, event_as}
 use Rattle.events.specs.Apart.{packet_for, point_for, taken_for, action_for, stored_by}
 use Rattle.events.proofs.Stored.{point_at, refused_is, unchanged_is, lost_is, acted_is}

@@ -9,32 +9,33 @@ use native.Mathlib.Nat.{not-suc-le-zero, le_of_suc-le-suc}
 use lib.ListN.{length, get_or, set, take, length-set, length-map}
 use lib.Seq.{set-get_or}
 use Rattle.lists.specs.Places.{All, cons, without}
-use Rattle.elements.specs.declared.InFlight.{InFlight}
+use Rattle.structs.specs.declared.InFlight.{InFlight}
 use Rattle.machine.specs.Packets.{carried}
 use Rattle.machine.specs.Moves.{nothing}
 use Rattle.machine.specs.AccessPoint as machine
 use Rattle.machine.specs.Network.{access_point_at, set_point, set_in_flight}
 use Rattle.machine.specs.Events.{given_up_count, quiet, act}
-use Rattle.record.specs.declared.AccessPoint.{AccessPoint}
+use Rattle.structs.specs.declared.AccessPoint.{AccessPoint}
 use Rattle.record.specs.Lens.{get_point, put_point}
 use Rattle.record.proofs.LensLaws.{Fits, point_kept}
-use Rattle.network.specs.declared.Network.{Network}
-use Rattle.network.specs.Lens.{get_in_flight, put_in_flight, put_points, get, put}
+use Rattle.structs.specs.declared.Network.{Network}
+use Rattle.network.specs.Lens.{put_points, get, put}
+use Rattle.structs.specs.Lists.{get_in_flight, put_in_flight, get_outbox}
 use Rattle.network.specs.Events.{Reply, line_of, reply_of, refused}
 use Rattle.network.proofs.LensLaws.{NetworkFits, points_kept, put_get}
 use Rattle.network.proofs.Lent.{got_count}
-use Rattle.in_flight.specs.Post.{get_outbox, outbox_of, posted}
+use Rattle.in_flight.specs.Post.{outbox_of, posted}
 use Rattle.in_flight.proofs.Posted.{sends_posted, outbox_got}
 use Rattle.actions.specs.Done.{Done, unchanged_by, done_by, decided, receive_of, lose_of}
 use Rattle.std.specs.Prelude.{Option}
 use lib.Dec.{ltb}
 use Rattle.machine.specs.Stations.{Station}
-use Rattle.events.specs.declared.Kind.{Kind}
-use Rattle.events.specs.declared.Kind.TheVariants.{Join, Leave, Deliver, Repeat, Lose, Tick, Who}
+use Rattle.structs.specs.declared.Kind.{Kind}
+use Rattle.structs.specs.declared.Kind.TheVariants.{Join, Leave, Deliver, Repeat, Lose, Tick, Who}
 use Rattle.events.specs.Apart.{taken_for, action_for, settled_by, stored_by}
-use Rattle.in_flight.specs.declared.Outbox.{Outbox}
-use Rattle.network.specs.declared.InFlights.{InFlights}
-use Rattle.network.proofs.LensLaws.{in_flight_kept}
+use Rattle.structs.specs.declared.Outbox.{Outbox}
+use Rattle.structs.specs.declared.InFlights.{InFlights}
+use Rattle.structs.proofs.Lists.{in_flight_kept}
 
 -- one access point of n, put back alone
 points_set : (n b : ℕ) (xs : List AccessPoint) (d : AccessPoint) (p : machine.AccessPoint) → All Fits (take n xs) → b < n → n ≤ length xs

@@ -9,14 +9,14 @@ use native.Mathlib.Omega.{arith}
 use lib.ListN.{length, take, length-take}
 use Rattle.lists.specs.Places.{without}
 use Rattle.lists.proofs.Every.{without_length}
-use Rattle.elements.specs.declared.InFlight.{InFlight}
+use Rattle.structs.specs.declared.InFlight.{InFlight}
 use Rattle.slots.proofs.Over.{take_over, over_over, length_over}
-use Rattle.network.specs.Lens.{get_in_flight, put_in_flight}
-use Rattle.in_flight.specs.Post.{get_outbox, posted}
+use Rattle.structs.specs.Lists.{get_in_flight, put_in_flight, get_outbox}
+use Rattle.in_flight.specs.Post.{posted}
 use Rattle.events.specs.Apart.{settled_by}
-use Rattle.in_flight.specs.declared.Outbox.{Outbox}
-use Rattle.network.specs.declared.InFlights.{InFlights}
-use Rattle.elements.specs.Blanks.{no_in_flight}
+use Rattle.structs.specs.declared.Outbox.{Outbox}
+use Rattle.structs.specs.declared.InFlights.{InFlights}
+use Rattle.structs.specs.Blanks.{no_in_flight}
 
 -- what is left of t where packet i is taken out or not
 abbrev pub left : Bool → ℕ → InFlights → InFlights

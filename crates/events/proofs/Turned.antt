@@ -8,19 +8,19 @@ use Rattle.std.specs.Prelude.{Option}
 use lib.Count.{ones}
 use lib.ListN.{get_or, take}
 use Rattle.lists.proofs.Choices.{by_bool}
-use Rattle.elements.specs.declared.InFlight.{InFlight}
+use Rattle.structs.specs.declared.InFlight.{InFlight}
 use Rattle.machine.specs.Stations.{Station, is_group}
 use Rattle.machine.specs.Events.{who, held_by, step}
-use Rattle.record.specs.declared.AccessPoint.{AccessPoint}
+use Rattle.structs.specs.declared.AccessPoint.{AccessPoint}
 use Rattle.record.specs.Lens.{get_point}
-use Rattle.network.specs.declared.Network.{Network}
+use Rattle.structs.specs.declared.Network.{Network}
 use Rattle.network.specs.Lens.{get}
 use Rattle.network.specs.Events.{valid_network_record, Reply, reply_of, refused, event_of}
 use Rattle.network.proofs.LensLaws.{NetworkFits}
 use Rattle.network.proofs.Lent.{event_valid}
 use Rattle.actions.specs.Done.{Done}
-use Rattle.events.specs.declared.Kind.{Kind}
-use Rattle.events.specs.declared.Kind.TheVariants.{Join, Leave, Deliver, Repeat, Lose, Tick, Who}
+use Rattle.structs.specs.declared.Kind.{Kind}
+use Rattle.structs.specs.declared.Kind.TheVariants.{Join, Leave, Deliver, Repeat, Lose, Tick, Who}
 use Rattle.events.specs.Event.{event_as, is_who}
 use Rattle.events.specs.Apart.{packet_for, point_for, taken_for, action_for, stored_by, answered_by}
 use Rattle.events.proofs.Stored.{unchanged_is}

@@ -13,17 +13,17 @@ use Rattle.lists.specs.Places.{every, All}
 use Rattle.lists.proofs.Choices.{and_left, and_right, and_true}
 use Rattle.lists.proofs.Every.{every_all}
 use Rattle.lists.proofs.Search.{get_or_used}
-use Rattle.elements.specs.declared.InFlight.{InFlight}
-use Rattle.elements.specs.declared.Move.{Move}
+use Rattle.structs.specs.declared.InFlight.{InFlight}
+use Rattle.structs.specs.declared.Move.{Move}
 use Rattle.machine.specs.Packets.{readable, octets_in}
 use Rattle.machine.specs.Valid.{distinct, valid_association, valid_move, valid_point, valid_in_flight, valid_setup}
 use Rattle.machine.proofs.Valid.{SetupIn, setup_in}
-use Rattle.record.specs.declared.AccessPoint.{AccessPoint}
-use Rattle.record.specs.Lens.{get_associations, get_moves, named, get_point}
+use Rattle.structs.specs.declared.AccessPoint.{AccessPoint}
+use Rattle.record.specs.Lens.{named, get_point}
+use Rattle.structs.specs.Lists.{get_associations, get_moves, get_in_flight}
 use Rattle.record.specs.Valid.{valid_record, Usable}
 use Rattle.record.proofs.ValidLaws.{valid_says, every_at}
-use Rattle.network.specs.declared.Network.{Network}
-use Rattle.network.specs.Lens.{get_in_flight}
+use Rattle.structs.specs.declared.Network.{Network}
 use Rattle.network.specs.Events.{valid_network_record}
 use Rattle.network.proofs.LensLaws.{NetworkFits}
 use Rattle.sending.specs.Sends.{sequence_within}

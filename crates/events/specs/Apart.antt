@@ -4,19 +4,19 @@ use Rattle.std.specs.Prelude.{ℕ, Bool, false, cond, List, ltb, set}
 use Rattle.std.specs.Prelude.{Option}
 use Rattle.std.specs.Int.Count.{ones}
 use Rattle.lists.specs.Places.{without}
-use Rattle.elements.specs.declared.InFlight.{InFlight}
+use Rattle.structs.specs.declared.InFlight.{InFlight}
 use Rattle.machine.specs.Stations.{Station, is_group}
-use Rattle.record.specs.declared.AccessPoint.{AccessPoint}
-use Rattle.network.specs.declared.Network.{Network}
-use Rattle.network.specs.Lens.{get_in_flight, put_in_flight}
+use Rattle.structs.specs.declared.AccessPoint.{AccessPoint}
+use Rattle.structs.specs.declared.Network.{Network}
+use Rattle.structs.specs.Lists.{get_in_flight, put_in_flight, get_outbox}
 use Rattle.network.specs.Events.{Line, Reply}
-use Rattle.in_flight.specs.Post.{get_outbox, posted}
+use Rattle.in_flight.specs.Post.{posted}
 use Rattle.actions.specs.Done.{Done, unchanged_by, join_of, leave_of, tick_of, receive_of, lose_of}
-use Rattle.events.specs.declared.Kind.{Kind}
-use Rattle.events.specs.declared.Kind.TheVariants.{Join, Leave, Deliver, Repeat, Lose, Tick, Who}
+use Rattle.structs.specs.declared.Kind.{Kind}
+use Rattle.structs.specs.declared.Kind.TheVariants.{Join, Leave, Deliver, Repeat, Lose, Tick, Who}
 use Rattle.events.specs.Event.{is_who}
-use Rattle.in_flight.specs.declared.Outbox.{Outbox}
-use Rattle.network.specs.declared.InFlights.{InFlights}
+use Rattle.structs.specs.declared.Outbox.{Outbox}
+use Rattle.structs.specs.declared.InFlights.{InFlights}
 
 -- the packet of m in flight that the event is about, 0 where it is about none
 abbrev pub packet_for : Kind → ℕ → ℕ → ℕ

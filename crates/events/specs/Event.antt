@@ -3,9 +3,9 @@ use Rattle.std.specs.Prelude.{ℕ, Bool, true, false, List}
 use Rattle.std.specs.Prelude.{Option}
 use Rattle.machine.specs.Stations.{Station}
 use Rattle.machine.specs.Events as machine
-use Rattle.events.specs.declared.Kind.{Kind}
-use Rattle.events.specs.declared.Kind.TheVariants.{Join, Leave, Deliver, Repeat, Lose, Tick, Who}
-use Rattle.events.specs.declared.Event.{Event}
+use Rattle.structs.specs.declared.Kind.{Kind}
+use Rattle.structs.specs.declared.Kind.TheVariants.{Join, Leave, Deliver, Repeat, Lose, Tick, Who}
+use Rattle.structs.specs.declared.Event.{Event}
 
 -- an event of each kind. What it has no use for is ignored: a leave has no sequence number, and so on
 abbrev pub event_as : Kind → ℕ → Station → ℕ → Option ℕ → List ℕ → machine.Event

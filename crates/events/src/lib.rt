@@ -7,7 +7,8 @@ ghost use Rattle.lists.specs.Places.{every, All};
 ghost use Rattle.machine.specs.Packets.{readable, octets_in};
 ghost use Rattle.machine.specs.Events as machine;
 ghost use Rattle.machine.specs.Events.{held_by, holds};
-ghost use Rattle.record.specs.Lens.{get_moves, get_point};
+ghost use Rattle.record.specs.Lens.{get_point};
+ghost use Rattle.structs.specs.Lists.{get_moves};
 ghost use Rattle.record.specs.Valid.{Usable};
 ghost use Rattle.sending.specs.Sends.{sequence_within};
 ghost use Rattle.actions.specs.Done.{done_of};
@@ -16,97 +17,7 @@ ghost use Rattle.events.specs.Apart.{packet_for, point_for, taken_for, action_fo
 
 use actions::Action;
 use answers::Refusal;
-use elements::InFlight;
-use in_flight::Outbox;
-use joining::Request;
-use network::InFlights;
-use record::{AccessPoint, Setup};
-
-// Document 01, "The floor machine": the seven events.
-#[derive(Clone, Copy, Debug, PartialEq, Eq)]
-pub enum Kind {
-    Join,
-    Leave,
-    Deliver,
-    Repeat,
-    Lose,
-    Tick,
-    Who,
-}
-
-// An event but for a join's context. `at` is the AP, or the packet for deliver, repeat and lose. What an event has no use for is ignored. Stays a
-// struct with a kind: a script's line and the tables below ask for the kind and the number alone, and an enum would bind and drop the rest there.
-#[derive(Clone, Copy, Debug, PartialEq, Eq)]
-pub struct Event {
-    pub kind: Kind,
-    pub at: u16,
-    pub station: [u8; 6],
-    pub sequence: u16,
-    pub old: Option<u16>,
-}
-
-impl Event {
-    // An event of this kind, with a number and a station.
-    fn plain(kind: Kind, at: u16, station: [u8; 6]) -> Event
-        ensures { result ≡ record { kind = kind; at = at; station = station; sequence = 0; old = None } }
-    {
-        Event {
-            kind,
-            at,
-            station,
-            sequence: 0,
-            old: None,
-        }
-    }
-
-    pub fn join(at: u16, station: [u8; 6], sequence: u16, old: Option<u16>) -> Event
-        ensures { (c : List ℕ) → event_from result c ≡ machine.join at station sequence old c }
-    {
-        Event {
-            kind: Kind::Join,
-            at,
-            station,
-            sequence,
-            old,
-        }
-    }
-
-    pub fn leave(at: u16, station: [u8; 6]) -> Event
-        ensures { (c : List ℕ) → event_from result c ≡ machine.leave at station }
-    {
-        Event::plain(Kind::Leave, at, station)
-    }
-
-    pub fn deliver(packet: u16) -> Event
-        ensures { (c : List ℕ) → event_from result c ≡ machine.deliver packet }
-    {
-        Event::plain(Kind::Deliver, packet, [0; 6])
-    }
-
-    pub fn repeat(packet: u16) -> Event
-        ensures { (c : List ℕ) → event_from result c ≡ machine.repeat packet }
-    {
-        Event::plain(Kind::Repeat, packet, [0; 6])
-    }
-
-    pub fn lose(packet: u16) -> Event
-        ensures { (c : List ℕ) → event_from result c ≡ machine.lose packet }
-    {
-        Event::plain(Kind::Lose, packet, [0; 6])
-    }
-
-    pub fn tick(at: u16) -> Event
-        ensures { (c : List ℕ) → event_from result c ≡ machine.tick at }
-    {
-        Event::plain(Kind::Tick, at, [0; 6])
-    }
-
-    pub fn who(station: [u8; 6]) -> Event
-        ensures { (c : List ℕ) → event_from result c ≡ machine.who station }
-    {
-        Event::plain(Kind::Who, 0, station)
-    }
-}
+use structs::{AccessPoint, Event, InFlight, InFlights, Kind, Outbox, Request, Setup};
 
 // The packet that the event is about, of `count` in flight; 0 where it is about none.
 pub fn packet_of(kind: Kind, at: u16, count: usize) -> usize

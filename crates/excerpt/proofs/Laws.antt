@@ -7,9 +7,9 @@ use native.Mathlib.Omega.{arith}
 use lib.ListN.{length, get_or}
 use Rattle.lists.specs.Search.{index_by}
 use Rattle.lists.proofs.Search.{index_bound}
-use Rattle.record.specs.declared.AccessPoint.{AccessPoint}
-use Rattle.elements.specs.Blanks.{no_association}
-use Rattle.record.specs.Lens.{get_associations}
+use Rattle.structs.specs.declared.AccessPoint.{AccessPoint}
+use Rattle.structs.specs.Blanks.{no_association}
+use Rattle.structs.specs.Lists.{get_associations}
 use lib.Seq.{length-take-le}
 use Rattle.record.proofs.LensLaws.{Fits}
 use Rattle.associations.specs.Rows.{is_of}

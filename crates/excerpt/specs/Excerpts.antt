@@ -2,12 +2,12 @@
 use Rattle.std.specs.Prelude.{ℕ, ◌≤◌, ◌<◌, ◌≡◌, length, get_or}
 use Rattle.lists.specs.Places.{without}
 use Rattle.lists.specs.Search.{index_by, placed}
-use Rattle.elements.specs.declared.Association.{Association}
+use Rattle.structs.specs.declared.Association.{Association}
 use Rattle.machine.specs.Stations.{Station}
-use Rattle.record.specs.declared.Associations.{Associations}
-use Rattle.record.specs.declared.AccessPoint.{AccessPoint}
-use Rattle.elements.specs.Blanks.{no_association}
-use Rattle.record.specs.Lens.{get_associations, put_associations}
+use Rattle.structs.specs.declared.Associations.{Associations}
+use Rattle.structs.specs.declared.AccessPoint.{AccessPoint}
+use Rattle.structs.specs.Blanks.{no_association}
+use Rattle.structs.specs.Lists.{get_associations, put_associations}
 use Rattle.record.specs.Valid.{Usable}
 use Rattle.associations.specs.Rows.{is_of}
 use Rattle.excerpt.specs.declared.Edit.{Edit}

@@ -3,13 +3,12 @@
 #![tactic(auto)]
 
 ghost use Rattle.std.specs.Prelude.{◌≡◌, ◌≤◌, get_or};
-ghost use Rattle.elements.specs.Blanks.{no_association};
-ghost use Rattle.record.specs.Lens.{get_associations};
+ghost use Rattle.structs.specs.Blanks.{no_association};
+ghost use Rattle.structs.specs.Lists.{get_associations};
 ghost use Rattle.excerpt.specs.Excerpts.{excerpt_of, with_edit, edited, put_back, Allowed};
 
-use elements::Association;
-use record::{AccessPoint, Associations, Moves};
 use slots::Blank;
+use structs::{AccessPoint, Association, Associations, Moves};
 
 // What happens to the table: nothing, the row at a place becomes another one (a new one last), or it is removed.
 #[derive(Clone, Copy, Debug, PartialEq, Eq)]

@@ -3,8 +3,8 @@ use crate::words::Line;
 use crate::{digests, parts};
 use alone::Outcome;
 use cases::Hex;
-use record::LoneAccessPoint;
 use std::io::Result;
+use structs::LoneAccessPoint;
 
 // The record: ROWS MOVES NEXT OPENED RESENT ANSWERED GIVENUP DIGEST.
 fn show(rt: &impl Print, l: &LoneAccessPoint) -> Result<()> {

@@ -1,7 +1,5 @@
 // A digest of a record: every field and every octet in the order of the structs, unused slots and unused APs included.
-use elements::{Association, InFlight, Move};
-use network::Network;
-use record::{AccessPoint, LoneAccessPoint};
+use structs::{AccessPoint, Association, InFlight, LoneAccessPoint, Move, Network};
 
 // The digest h with one more value. 4294967291 is a prime.
 fn fold(h: u64, x: u64) -> u64 {

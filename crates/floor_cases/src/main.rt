@@ -29,9 +29,8 @@ mod parts;
 mod turns;
 mod words;
 
-use network::Network;
-use record::LoneAccessPoint;
 use std::io::Result;
+use structs::{LoneAccessPoint, Network};
 use words::Line;
 
 // The floor's record, the one of the AP alone, and the latter as it was kept.

@@ -1,9 +1,7 @@
 // A part of a record put in place by hand, as a line of input says. A place is taken modulo the number of places that there are, and
 // a value modulo the number of values. The last part of each whole stands for any other.
 use crate::words::{self, Line};
-use elements::{Association, InFlight, Move};
-use network::Network;
-use record::{AccessPoint, LoneAccessPoint};
+use structs::{AccessPoint, Association, InFlight, LoneAccessPoint, Move, Network};
 
 // WHOLE and PART of the line's word 1.
 fn names(line: Line) -> (&[u8], &[u8]) {

@@ -1,10 +1,9 @@
 // A floor: set-up, the seven events and parts put in place, as a line of input gives them, and the line of output for each.
 use crate::words::Line;
 use crate::{digests, parts};
-use events::{Event, Kind};
 use floor_link::Reply;
-use network::Network;
 use std::io::Result;
+use structs::{Event, Kind, Network};
 
 // A network of no APs, to which 14 applies: what there is before set-up, and after a refused one.
 pub fn nothing_set_up() -> Network {

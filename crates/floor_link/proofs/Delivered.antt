@@ -8,7 +8,7 @@ use native.Mathlib.Omega.{arith}
 use Rattle.lists.specs.Places.{All}
 use Rattle.machine.specs.Events.{Event, Octet, StationIn, Formed}
 use Rattle.machine.specs.Valid.{valid_setup}
-use Rattle.network.specs.declared.Network.{Network}
+use Rattle.structs.specs.declared.Network.{Network}
 use Rattle.network.specs.Lens.{new_network}
 use Rattle.network.specs.Events as floor
 use Rattle.network.specs.Events.{event_of, run_of, lines_of}
@@ -16,9 +16,9 @@ use Rattle.network.specs.Clean.{Clean}
 use Rattle.network.specs.Demand.{Demand, networks_of, answered_of}
 use Rattle.network.proofs.Reached.{demand}
 use Rattle.network.proofs.Clean.{clean}
-use Rattle.events.specs.declared.Kind.{Kind}
-use Rattle.events.specs.declared.Kind.TheVariants.{Join, Leave, Deliver, Repeat, Lose, Tick, Who}
-use Rattle.events.specs.declared.Event as call
+use Rattle.structs.specs.declared.Kind.{Kind}
+use Rattle.structs.specs.declared.Kind.TheVariants.{Join, Leave, Deliver, Repeat, Lose, Tick, Who}
+use Rattle.structs.specs.declared.Event as call
 use Rattle.events.specs.Event.{event_as, event_from}
 use Rattle.floor_link.specs.declared.Reply.{Reply}
 use Rattle.std.specs.Prelude.{Result}

@@ -5,7 +5,7 @@ use Rattle.machine.specs.Events.{Event, Formed, step}
 use Rattle.machine.specs.History.{run, begin}
 use Rattle.machine.specs.Joins.{Answered, answers_of}
 use Rattle.machine.specs.Claim.{Claim}
-use Rattle.network.specs.declared.Network.{Network}
+use Rattle.structs.specs.declared.Network.{Network}
 use Rattle.network.specs.Lens.{put, new_network}
 use Rattle.network.specs.Events.{Line, line_of, event_of}
 use Rattle.network.specs.Clean.{Clean}

@@ -13,9 +13,7 @@ ghost use Rattle.events.specs.Event.{is_who, event_from};
 ghost use Rattle.floor_link.specs.Answered.{set_up_of, set_up_done, reply_at, Unchanged, reply_from};
 
 use answers::Refusal;
-use events::Event;
-use network::Network;
-use record::{AccessPoint, Setup};
+use structs::{AccessPoint, Event, Network, Setup};
 
 // SENT, GIVENUP, HELD and TABLES of an accepted event.
 #[derive(Clone, Copy, Debug, PartialEq, Eq)]

@@ -12,15 +12,15 @@ use lib.Dec.{ltb}
 use lib.ListN.{length, take, get_or, length-append}
 use lib.Seq.{take-suc}
 use Rattle.lists.proofs.Bools.{by_cond}
-use Rattle.elements.specs.declared.InFlight.{InFlight}
+use Rattle.structs.specs.declared.InFlight.{InFlight}
 use Rattle.machine.specs.Packets.{Outgoing, carried}
 use Rattle.machine.specs.Network.{Network, set_in_flight, send, send_all}
-use Rattle.network.specs.declared.InFlights.{InFlights}
+use Rattle.structs.specs.declared.InFlights.{InFlights}
 use Rattle.slots.proofs.Over.{take_over}
 use Rattle.slots.proofs.Laws.{put_more}
-use Rattle.elements.specs.Blanks.{no_in_flight}
-use Rattle.network.specs.Lens.{get_in_flight, put_in_flight}
-use Rattle.in_flight.specs.Post.{no_outbox, get_outbox, outbox_of, posted}
+use Rattle.structs.specs.Blanks.{no_in_flight}
+use Rattle.structs.specs.Lists.{get_in_flight, put_in_flight, no_outbox, get_outbox}
+use Rattle.in_flight.specs.Post.{outbox_of, posted}
 
 -- what a read past the end of the array gives, in the logic
 abbrev pub past : InFlight

@@ -1,19 +1,8 @@
 -- Packets put in flight, in order of sending.
-use Rattle.std.specs.Prelude.{cond, ◌≡◌, refl, List, [], ◌∷◌, ◌++◌, ltb, length, take, replicate}
-use Rattle.in_flight.specs.declared.Outbox.{Outbox}
-use Rattle.slots.specs.Lists.{over}
-use Rattle.elements.specs.declared.InFlight.{InFlight}
-use Rattle.elements.specs.Blanks.{no_in_flight}
-
--- the packets that one event sends: none, those of an outbox, and others in their place
-abbrev pub no_outbox : Outbox
-no_outbox = record { items = replicate 8 no_in_flight; count = 0 }
-
-abbrev pub get_outbox : Outbox → List InFlight
-get_outbox o = take o.count o.items
-
-abbrev pub put_outbox : Outbox → List InFlight → Outbox
-put_outbox o ps = record { items = over no_in_flight o.count ps o.items; count = length ps }
+use Rattle.std.specs.Prelude.{cond, ◌≡◌, refl, List, [], ◌∷◌, ◌++◌, ltb, length, replicate}
+use Rattle.structs.specs.declared.Outbox.{Outbox}
+use Rattle.structs.specs.declared.InFlight.{InFlight}
+use Rattle.structs.specs.Lists.{no_outbox, put_outbox}
 
 -- the packets ps to be sent: every slot past them is blank
 unfoldable pub outbox_of : List InFlight → Outbox

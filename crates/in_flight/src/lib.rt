@@ -1,53 +1,14 @@
 // The packets in flight between access points. Document 01: the air, "up to 64 packets in order of sending".
 #![tactic(auto)]
 
-ghost use Rattle.std.specs.Prelude.{◌≡◌, ◌&&◌, ◌≤◌, ◌<◌, ◌++◌, [], ◌∷◌, leb, length};
+ghost use Rattle.std.specs.Prelude.{◌≡◌, ◌&&◌, ◌≤◌, leb, length};
 ghost use Rattle.std.specs.List.{list_all};
 ghost use Rattle.lists.specs.Places.{every};
 ghost use Rattle.machine.specs.Valid.{valid_in_flight};
-ghost use Rattle.network.specs.Lens.{get_in_flight, put_in_flight};
-ghost use Rattle.in_flight.specs.Post.{no_outbox, get_outbox, put_outbox, posted};
+ghost use Rattle.structs.specs.Lists.{get_in_flight, put_in_flight, get_outbox};
+ghost use Rattle.in_flight.specs.Post.{posted};
 
-use elements::InFlight;
-use network::InFlights;
-use slots::Blank;
-
-// The packets that one event sends, in order: an announcement goes to seven APs at most, and a tick sends eight notices again at most.
-// Stays a struct with a count, as the record's lists are.
-#[derive(Clone, Copy)]
-pub struct Outbox {
-    pub items: [InFlight; 8],
-    pub count: usize,
-}
-
-impl Outbox {
-    // Nothing sent: every slot is blank.
-    pub fn none() -> Outbox
-        ensures { result ≡ no_outbox }
-    {
-        Outbox {
-            items: [InFlight::blank(); 8],
-            count: 0,
-        }
-    }
-
-    // The packets sent, in order.
-    pub fn used(&self) -> &[InFlight]
-        requires { self.now.count ≤ 8 }
-        ensures elements { result.now ≡ get_outbox self.now }
-        ensures len { length result.now ≡ self.now.count }
-    {
-        &self.items[..self.count]
-    }
-
-    // One packet more, sent last.
-    pub fn push(&mut self, p: InFlight)
-        requires { self.old.count < 8 }
-        ensures { self.new ≡ put_outbox self.old (get_outbox self.old ++ (p ∷ [])) }
-    {
-        slots::push(&mut self.items, &mut self.count, p);
-    }
-}
+use structs::{InFlight, InFlights, Outbox};
 
 // The packets of `sent` put in flight, in order. One that finds 64 in flight is lost.
 pub fn post(t: &mut InFlights, sent: &Outbox)

@@ -10,15 +10,16 @@ use Rattle.lists.specs.Search.{index_by, placed}
 use Rattle.lists.proofs.Tables.{none_pass}
 use Rattle.lists.proofs.Choices.{not_both}
 use Rattle.sequence.specs.Distance.{newer_of}
-use Rattle.elements.specs.declared.Association.{Association}
-use Rattle.elements.specs.declared.Move.{Move}
+use Rattle.structs.specs.declared.Association.{Association}
+use Rattle.structs.specs.declared.Move.{Move}
 use Rattle.machine.specs.AccessPoint as machine
 use Rattle.machine.specs.Associations.{Context, given, association, held_context, associate}
 use Rattle.machine.specs.Moves.{Open, counts_after, counted, new_move, notice_of}
 use Rattle.machine.specs.Moves as happenings
 use Rattle.machine.specs.AccessPoint.{with_associations, with_moves, use_identifier, quietly, another, this, nowhere, origin_of, needs_move, join_tests, joined, join_from}
-use Rattle.record.specs.declared.AccessPoint.{AccessPoint}
-use Rattle.record.specs.Lens.{get_associations, put_associations, get_moves, put_moves, named, bare, get_point, put_point}
+use Rattle.structs.specs.declared.AccessPoint.{AccessPoint}
+use Rattle.record.specs.Lens.{named, bare, get_point, put_point}
+use Rattle.structs.specs.Lists.{get_associations, put_associations, get_moves, put_moves}
 use Rattle.record.proofs.LensLaws.{put_parts, moves_as_got}
 use Rattle.associations.specs.Rows.{is_of}
 use Rattle.associations.proofs.Laws.{associate_at, context_at, station_at_lem, sequence_at}
@@ -26,13 +27,13 @@ use Rattle.excerpt.specs.declared.Edit.TheVariants.{Place}
 use Rattle.excerpt.specs.declared.Excerpt.{Excerpt}
 use Rattle.excerpt.specs.Excerpts.{with_edit, put_back, Seen}
 use Rattle.excerpt.proofs.Laws.{fits, at_is, moves_is, identifier_is}
-use Rattle.joining.specs.declared.Origin.{Origin}
-use Rattle.joining.specs.declared.Origin.TheVariants.{Another, This, Nowhere}
+use Rattle.structs.specs.declared.Origin.{Origin}
+use Rattle.structs.specs.declared.Origin.TheVariants.{Another, This, Nowhere}
 use Rattle.joining.specs.declared.Notice.{Notice}
 use Rattle.joining.specs.declared.Notice.TheVariants.{Silent}
 use Rattle.joining.specs.Join.{sends_by, notice_from, origin_from, join_done, moves_tests, tests_at, moving_from}
-use Rattle.record.specs.declared.Moves.{Moves}
-use Rattle.elements.specs.Blanks.{no_association}
+use Rattle.structs.specs.declared.Moves.{Moves}
+use Rattle.structs.specs.Blanks.{no_association}
 use lib.Seq.{length-take-le}
 
 -- the tests, one after the other

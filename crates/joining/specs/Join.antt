@@ -8,11 +8,11 @@ use Rattle.machine.specs.Stations.{Station}
 use Rattle.machine.specs.Packets.{Outgoing, add_notify, move_notify}
 use Rattle.machine.specs.AccessPoint as machine
 use Rattle.machine.specs.AccessPoint.{another, this, nowhere, add_notifies, join_from, join_tests}
-use Rattle.record.specs.declared.AccessPoint.{AccessPoint}
+use Rattle.structs.specs.declared.AccessPoint.{AccessPoint}
 use Rattle.record.specs.Lens.{get_point, put_point}
 use Rattle.excerpt.specs.Excerpts.{put_back}
-use Rattle.joining.specs.declared.Origin.{Origin}
-use Rattle.joining.specs.declared.Origin.TheVariants.{Another, This, Nowhere}
+use Rattle.structs.specs.declared.Origin.{Origin}
+use Rattle.structs.specs.declared.Origin.TheVariants.{Another, This, Nowhere}
 use Rattle.joining.specs.declared.Notice.{Notice}
 use Rattle.joining.specs.declared.Notice.TheVariants.{Silent, Announce, Notify}
 use Rattle.joining.specs.declared.Joined.{Joined}

@@ -6,32 +6,16 @@ ghost use Rattle.lists.specs.Table.{first_of};
 ghost use Rattle.answers.specs.Numbers.{number_of};
 ghost use Rattle.machine.specs.Associations.{association, held_context};
 ghost use Rattle.machine.specs.AccessPoint.{another, this, nowhere, origin_of, join_from};
-ghost use Rattle.record.specs.declared.AccessPoint.{AccessPoint};
-ghost use Rattle.record.specs.Lens.{get_associations, get_point, put_point};
+ghost use Rattle.structs.specs.declared.AccessPoint.{AccessPoint};
+ghost use Rattle.record.specs.Lens.{get_point, put_point};
+ghost use Rattle.structs.specs.Lists.{get_associations};
 ghost use Rattle.excerpt.specs.declared.Edit.TheVariants.{Place};
 ghost use Rattle.excerpt.specs.Excerpts.{put_back, Allowed, Seen};
 ghost use Rattle.joining.specs.Join.{origin_from, moving_from, moves_tests, tests_at, joined_of, join_done};
 
 use answers::{Answer, Refusal};
-use elements::{Association, Move};
 use excerpt::{Edit, Excerpt};
-use record::Setup;
-
-// What a station that joins gives, but for its context: its address, its number, and the old AP that it names or none.
-#[derive(Clone, Copy, Debug, PartialEq, Eq)]
-pub struct Request {
-    pub station: [u8; 6],
-    pub sequence: u16,
-    pub old: Option<u16>,
-}
-
-// Where the old AP is: another AP of the floor, this AP, or none or not on the floor. Stays an enum: an Option would take two of the three as one.
-#[derive(Clone, Copy, Debug, PartialEq, Eq)]
-pub enum Origin {
-    Another(u8),
-    This,
-    Nowhere,
-}
+use structs::{Association, Move, Origin, Request, Setup};
 
 // What a join sends: nothing, ADD-notify with this identifier to every other AP, or MOVE-notify with it to the old AP.
 #[derive(Clone, Copy, Debug, PartialEq, Eq)]

@@ -16,7 +16,7 @@ use Rattle.machine.specs.Stations.{Station, is_group}
 use Rattle.machine.specs.Network as floor
 use Rattle.machine.specs.Events.{join, event_tests, refusal, quiet, step, unknown_point, group_address, Outcome}
 use Rattle.machine.proofs.Held.{step_refused}
-use Rattle.network.specs.declared.Network.{Network}
+use Rattle.structs.specs.declared.Network.{Network}
 use Rattle.network.specs.Lens.{get}
 use Rattle.network.specs.Events.{valid_network_record, reply_of, event_of, refused}
 

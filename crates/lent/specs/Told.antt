@@ -2,7 +2,7 @@
 use Rattle.std.specs.Prelude.{ℕ, cond, take}
 use Rattle.machine.specs.Valid.{valid_setup}
 use Rattle.machine.specs.Events as machine
-use Rattle.network.specs.declared.Network.{Network}
+use Rattle.structs.specs.declared.Network.{Network}
 use Rattle.network.specs.Lens.{new_network}
 use Rattle.network.specs.Events as floor
 use Rattle.events.specs.Event.{event_from}

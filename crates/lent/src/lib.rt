@@ -11,9 +11,8 @@ ghost use Rattle.alone.specs.Told.{old_named};
 ghost use Rattle.lent.specs.Told.{told_of, set_up_over, asked_of};
 
 use answers::Refusal;
-use events::Event;
 use floor_link::Reply;
-use network::Network;
+use structs::{Event, Network};
 
 // ANSWER, SENT, GIVENUP, HELD and TABLES, each as document 01's number. Stays numbers, since C is given it.
 #[repr(C)]

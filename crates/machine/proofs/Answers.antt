@@ -12,8 +12,8 @@ use Rattle.packet.specs.Octets.{be16}
 use Rattle.reader.specs.Refusals.{head_tests, data_tests, reader_tests}
 use Rattle.reader.specs.Read.{read_of, context_of}
 use Rattle.writer.specs.Write.{octets_of}
-use Rattle.elements.specs.declared.Association.{Association}
-use Rattle.elements.specs.declared.InFlight.{InFlight}
+use Rattle.structs.specs.declared.Association.{Association}
+use Rattle.structs.specs.declared.InFlight.{InFlight}
 use Rattle.machine.specs.Stations.{Station, same, is_group}
 use Rattle.machine.specs.Associations.{padded, given, association, sequence_of, held_context, context_octets, associate, dissociate, dissociate_older, dissociate_exactly, fill}
 use Rattle.machine.specs.Packets.{Outgoing, add_notify, fields_as, written, carried, message_of, packet_of, readable, packet_in, octets_in}

@@ -14,7 +14,7 @@ use Rattle.lists.specs.Places.{nth, All, nil, cons}
 use Rattle.lists.proofs.Bools.{by_cond}
 use Rattle.lists.proofs.Choices.{by_bool, by_option}
 use Rattle.lists.proofs.Every.{all_nth}
-use Rattle.elements.specs.declared.Association.{Association}
+use Rattle.structs.specs.declared.Association.{Association}
 use Rattle.machine.specs.Stations.{Station}
 use Rattle.machine.specs.Packets.{Message, Packet, packet_in, octets_in}
 use Rattle.machine.specs.Moves.{Open, Happened, nothing, Counts, counted, counts_after, close, answering}

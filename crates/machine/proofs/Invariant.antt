@@ -16,7 +16,7 @@ use Rattle.lists.specs.Places.{All, nil, cons}
 use Rattle.lists.proofs.Every.{all_map, all_map2, all_append}
 use Rattle.sequence.specs.Distance.{newer_of}
 use Rattle.sequence.proofs.Laws.{newer_asym, newer_irrefl}
-use Rattle.elements.specs.declared.InFlight.{InFlight}
+use Rattle.structs.specs.declared.InFlight.{InFlight}
 use Rattle.machine.specs.Stations.{Station}
 use Rattle.machine.specs.Associations.{sequence_of}
 use Rattle.machine.specs.Packets.{Message, add_notify, move_notify, successful, stale_move, Packet, Outgoing, packet_in, octets_in, carried}

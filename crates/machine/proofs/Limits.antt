@@ -15,8 +15,8 @@ use Rattle.lists.proofs.Choices.{some_inj}
 use Rattle.lists.specs.Places.{All, nil, cons}
 use Rattle.lists.proofs.Every.{all_take, all_drop}
 use Rattle.reader.specs.Read.{read_of, context_of}
-use Rattle.elements.specs.declared.Association.{Association}
-use Rattle.elements.specs.declared.InFlight.{InFlight}
+use Rattle.structs.specs.declared.Association.{Association}
+use Rattle.structs.specs.declared.InFlight.{InFlight}
 use Rattle.machine.specs.Stations.{Station, same}
 use Rattle.machine.specs.Associations.{padded, Context, given, sequence_of, held_context, context_octets}
 use Rattle.machine.specs.Packets.{Message, add_notify, move_notify, successful, stale_move, Packet, Outgoing, fields_as, written, carried, message_of, packet_of, readable, packet_in, octets_in}

@@ -15,7 +15,7 @@ use Rattle.lists.specs.Places.{nth, without, All, nil, cons}
 use Rattle.lists.proofs.Bools.{by_cond}
 use Rattle.lists.proofs.Choices.{by_bool, by_option, and_left, and_right, and_true, or_mono, or_true_right, not_some, some_inj}
 use Rattle.lists.proofs.Every.{all_map, all_append, all_nth}
-use Rattle.elements.specs.declared.Association.{Association}
+use Rattle.structs.specs.declared.Association.{Association}
 use Rattle.machine.specs.Stations.{Station, same}
 use Rattle.machine.specs.Packets.{Message, Packet, packet_in, octets_in}
 use Rattle.machine.specs.Moves.{Open, Happened, nothing, new_move, opening, agrees, earliest, close, answering, timed, Fate, kept_from, kept, lapsed_by, lapsed, ticking}
@@ -26,7 +26,7 @@ use Rattle.machine.specs.History.{Entry, World, after, run, begin, times_in, clo
 use Rattle.machine.specs.Stronger.{is_move, move_among, move_opened, move_is_open}
 use Rattle.machine.proofs.Stations.{same_refl}
 use Rattle.machine.proofs.Parts.{point_set, by_fate, send_all_keeps, by_receipt}
-use Rattle.elements.specs.declared.InFlight.{InFlight}
+use Rattle.structs.specs.declared.InFlight.{InFlight}
 use Rattle.machine.proofs.Limits.{InFlightIn, Valid}
 use Rattle.machine.proofs.PointLimits.{close_all}
 use Rattle.machine.proofs.Valid.{SetupIn, join_passed, tick_passed, leave_passed, new_point_lem, valid_begin, valid_after}

@@ -13,8 +13,8 @@ use Rattle.lists.proofs.Bools.{by_cond}
 use Rattle.lists.proofs.Choices.{by_option, not_some, some_inj}
 use Rattle.lists.proofs.Every.{get_or_set, get_or_set_own}
 use Rattle.sequence.specs.Distance.{newer_of}
-use Rattle.elements.specs.declared.Association.{Association}
-use Rattle.elements.specs.declared.InFlight.{InFlight}
+use Rattle.structs.specs.declared.Association.{Association}
+use Rattle.structs.specs.declared.InFlight.{InFlight}
 use Rattle.machine.specs.Associations.{sequence_of}
 use Rattle.machine.specs.Packets.{Message, add_notify, move_notify, successful, stale_move, Packet, Outgoing, carried}
 use Rattle.machine.specs.Moves.{Open, Fate, waits, again, lapses, fate, timed, earliest, close, answering}

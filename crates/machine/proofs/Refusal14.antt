@@ -14,8 +14,8 @@ use Rattle.lists.specs.Places.{every, All, nil, cons}
 use Rattle.lists.proofs.Bools.{by_cond, or_left}
 use Rattle.lists.proofs.Choices.{and_left, and_right, and_true, not_both}
 use Rattle.lists.proofs.Every.{all_map, every_all, all_every}
-use Rattle.elements.specs.declared.Association.{Association}
-use Rattle.elements.specs.declared.InFlight.{InFlight}
+use Rattle.structs.specs.declared.Association.{Association}
+use Rattle.structs.specs.declared.InFlight.{InFlight}
 use Rattle.machine.specs.Associations.{sequence_of}
 use Rattle.machine.specs.Moves.{Open}
 use Rattle.machine.specs.AccessPoint.{AccessPoint, new_point}

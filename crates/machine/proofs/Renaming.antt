@@ -13,8 +13,8 @@ use Rattle.lists.specs.Options.{case_option}
 use Rattle.lists.specs.Places.{nth, without, All, nil, cons}
 use Rattle.lists.proofs.Every.{all_map, all_nth}
 use Rattle.sequence.specs.Distance.{newer_of}
-use Rattle.elements.specs.declared.Association.{Association}
-use Rattle.elements.specs.declared.InFlight.{InFlight}
+use Rattle.structs.specs.declared.Association.{Association}
+use Rattle.structs.specs.declared.InFlight.{InFlight}
 use Rattle.machine.specs.Stations.{Station, same}
 use Rattle.machine.specs.Associations.{Context, given, association, sequence_of, held_context, context_octets, associate, dissociate, dissociate_older, dissociate_exactly, fill}
 use Rattle.machine.specs.Packets.{Message, add_notify, move_notify, successful, stale_move, Packet, Outgoing, carried, packet_in, octets_in}

@@ -16,7 +16,7 @@ use Rattle.lists.specs.Places.{All, nil, cons}
 use Rattle.lists.proofs.Every.{all_map, all_append}
 use Rattle.sequence.specs.Distance.{newer_of}
 use Rattle.sequence.proofs.Laws.{newer_irrefl}
-use Rattle.elements.specs.declared.Association.{Association}
+use Rattle.structs.specs.declared.Association.{Association}
 use Rattle.machine.specs.Stations.{Station, same}
 use Rattle.machine.specs.Associations.{Context, given, association, sequence_of, held_context, dissociate, dissociate_older, dissociate_exactly, fill}
 use Rattle.machine.specs.Packets.{Message, add_notify, move_notify, successful, stale_move, Packet}

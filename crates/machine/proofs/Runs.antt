@@ -6,8 +6,8 @@ use mathlib.Core.Path.{◌≡◌, refl, sym, ap, ◌∙◌}
 use mathlib.Core.List.{List, [], ◌∷◌, ◌++◌, map}
 use lib.ListN.{length, take, drop, replicate, length-map, length-replicate, take-append-drop}
 use Rattle.lists.specs.Places.{All, nil, cons}
-use Rattle.elements.specs.declared.Association.{Association}
-use Rattle.elements.specs.declared.InFlight.{InFlight}
+use Rattle.structs.specs.declared.Association.{Association}
+use Rattle.structs.specs.declared.InFlight.{InFlight}
 use Rattle.reader.specs.Read.{read_of, context_of}
 use Rattle.machine.specs.Packets.{octets_in}
 use Rattle.machine.specs.AccessPoint.{AccessPoint, new_point}

@@ -14,8 +14,8 @@ use Rattle.lists.specs.Table.{accepts}
 use Rattle.lists.specs.Places.{nth, without}
 use Rattle.lists.proofs.Bools.{by_cond}
 use Rattle.lists.proofs.Choices.{by_bool, by_option}
-use Rattle.elements.specs.declared.InFlight.{InFlight}
-use Rattle.elements.specs.declared.Association.{Association}
+use Rattle.structs.specs.declared.InFlight.{InFlight}
+use Rattle.structs.specs.declared.Association.{Association}
 use Rattle.machine.specs.Stations.{Station}
 use Rattle.machine.specs.Packets.{Message, Packet, Outgoing, packet_in, octets_in}
 use Rattle.machine.specs.Moves.{Open, Happened, nothing, new_move, opening, agrees, close, answering, timed, Fate, kept_from, kept, resent_by, resends, ticking}

@@ -16,7 +16,7 @@ use Rattle.lists.proofs.Bools.{by_cond, or_left, or_right}
 use Rattle.lists.proofs.Tables.{none_pass, accepted}
 use Rattle.lists.proofs.Choices.{by_option}
 use Rattle.lists.proofs.Every.{all_append, all_nth, all_without, without_length}
-use Rattle.elements.specs.declared.InFlight.{InFlight}
+use Rattle.structs.specs.declared.InFlight.{InFlight}
 use Rattle.machine.specs.Stations.{Station, is_group}
 use Rattle.machine.specs.Associations.{sequence_of}
 use Rattle.machine.specs.Packets.{Outgoing, carried, octets_in, packet_in}
@@ -24,7 +24,6 @@ use Rattle.machine.specs.AccessPoint.{AccessPoint, new_point, Action, Origin, or
 use Rattle.machine.specs.Network.{Network, setup_tests, new_network, access_point_at, set_point, set_in_flight, send, send_all}
 use Rattle.machine.specs.Events.{Event, join, leave, deliver, repeat, lose, tick, who, Octet, StationIn, Formed, unknown_point, group_address, event_tests, refusal, Outcome, quiet, act, receive_frame, receive_at, step}
 use Rattle.machine.specs.Events as events
-use Rattle.machine.specs.Valid.{distinct}
 use Rattle.machine.specs.History.{World, after, run, begin}
 use Rattle.machine.proofs.Parts.{point_set, by_origin}
 use Rattle.machine.proofs.Limits.{ContextIn, OutgoingIn, InFlightIn, PointIn, ActionIn, Valid, carried_in, opened_in}

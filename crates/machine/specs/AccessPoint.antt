@@ -6,7 +6,7 @@ use Rattle.std.specs.Prelude.{Option}
 use Rattle.lists.specs.Table.{Test}
 use Rattle.lists.specs.Options.{case_option}
 use Rattle.sequence.specs.Distance.{newer_of}
-use Rattle.elements.specs.declared.Association.{Association}
+use Rattle.structs.specs.declared.Association.{Association}
 use Rattle.machine.specs.Stations.{Station}
 use Rattle.machine.specs.Associations.{Context, given, association, sequence_of, held_context, context_octets, associate, dissociate, dissociate_older, dissociate_exactly, fill}
 use Rattle.machine.specs.Packets.{Message, add_notify, move_notify, successful, stale_move, Packet, Outgoing}

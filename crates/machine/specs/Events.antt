@@ -4,7 +4,7 @@ use Rattle.std.specs.Prelude.{Option}
 use Rattle.lists.specs.Table.{Test, first_of, accepts}
 use Rattle.lists.specs.Options.{case_option}
 use Rattle.lists.specs.Places.{nth, without, All}
-use Rattle.elements.specs.declared.InFlight.{InFlight}
+use Rattle.structs.specs.declared.InFlight.{InFlight}
 use Rattle.machine.specs.Stations.{Station, is_group}
 use Rattle.machine.specs.Associations.{sequence_of}
 use Rattle.machine.specs.Packets.{octets_in, packet_in}

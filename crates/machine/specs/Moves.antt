@@ -2,7 +2,7 @@
 -- resends left (0..7)."
 use Rattle.std.specs.Prelude.{ℕ, ◌+◌, ◌-◌, ◌%◌, ◌^◌, Bool, cond, ◌&&◌, List, [], ◌∷◌, ltb, eqb}
 use Rattle.std.specs.Prelude.{Option, None, Some}
-use Rattle.elements.specs.declared.Move.{Move}
+use Rattle.structs.specs.declared.Move.{Move}
 use Rattle.machine.specs.Stations.{Station, same}
 use Rattle.machine.specs.Packets.{Packet, Outgoing, move_notify}
 

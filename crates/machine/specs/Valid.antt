@@ -5,8 +5,8 @@
 use Rattle.std.specs.Prelude.{ℕ, Bool, true, ◌&&◌, not, List, [], ◌∷◌, ltb, leb, length, is_some}
 use Rattle.lists.specs.Table.{first_of, accepts}
 use Rattle.lists.specs.Places.{every}
-use Rattle.elements.specs.declared.Association.{Association}
-use Rattle.elements.specs.declared.InFlight.{InFlight}
+use Rattle.structs.specs.declared.Association.{Association}
+use Rattle.structs.specs.declared.InFlight.{InFlight}
 use Rattle.machine.specs.Associations.{sequence_of}
 use Rattle.machine.specs.Packets.{readable, octets_in}
 use Rattle.machine.specs.Moves.{Open}

@@ -11,7 +11,7 @@ use lib.Dec.{ltb, leb-suc-suc, leb-zero}
 use lib.ListN.{length, get_or, length-map}
 use Rattle.lists.specs.Places.{without}
 use Rattle.lists.specs.Search.{index_by}
-use Rattle.elements.specs.declared.Move.{Move}
+use Rattle.structs.specs.declared.Move.{Move}
 use Rattle.machine.specs.Packets.{Packet}
 use Rattle.machine.specs.Moves.{Open, Fate, waits, again, lapses, fate, agrees, earliest, close, kept_from, kept, resent_by, resends, lapsed_by, lapsed, counted}
 use Rattle.record.specs.Lens.{named, bare}

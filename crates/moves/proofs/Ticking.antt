@@ -11,12 +11,13 @@ use lib.Dec.{ltb}
 use lib.ListN.{length, take, get_or}
 use lib.Seq.{take-suc, length-take-le}
 use Rattle.lists.proofs.Choices.{not_both}
-use Rattle.elements.specs.declared.Move.{Move}
+use Rattle.structs.specs.declared.Move.{Move}
 use Rattle.machine.specs.Moves.{Open, waits, again, lapses, fate, timed, kept_from, kept, resent_by, resends}
-use Rattle.elements.specs.Blanks.{no_move}
-use Rattle.record.specs.declared.Moves.{Moves}
+use Rattle.structs.specs.Blanks.{no_move}
+use Rattle.structs.specs.declared.Moves.{Moves}
 use Rattle.slots.proofs.Laws.{put_more}
-use Rattle.record.specs.Lens.{get_moves, put_moves, named, bare}
+use Rattle.record.specs.Lens.{named, bare}
+use Rattle.structs.specs.Lists.{get_moves, put_moves}
 use Rattle.moves.specs.Ticks.{stays, is_due, after}
 
 -- what a read past the end of the array gives, in the logic

@@ -1,7 +1,7 @@
 -- What a search of the open moves asks for. The machine's rules read identifier, station and sequence number of a packet, and
 -- nothing of its message: any message does here.
 use Rattle.std.specs.Prelude.{ℕ, Bool}
-use Rattle.elements.specs.declared.Move.{Move}
+use Rattle.structs.specs.declared.Move.{Move}
 use Rattle.machine.specs.Stations.{Station}
 use Rattle.machine.specs.Packets.{Packet, stale_move}
 use Rattle.machine.specs.Moves.{agrees}

@@ -1,7 +1,7 @@
 -- A tick at one open move, by the machine's `fate`: whether the move stays open, whether it is sent again, and the move after the
 -- tick.
 use Rattle.std.specs.Prelude.{ℕ, ◌-◌, Bool, true, false, cond, ltb}
-use Rattle.elements.specs.declared.Move.{Move}
+use Rattle.structs.specs.declared.Move.{Move}
 
 -- the same move with ticks and resends left anew
 abbrev pub retimed : Move → ℕ → ℕ → Move

@@ -7,12 +7,12 @@ ghost use Rattle.lists.specs.Places.{every};
 ghost use Rattle.lists.specs.Search.{index_by};
 ghost use Rattle.machine.specs.Moves.{kept, resends, lapsed};
 ghost use Rattle.machine.specs.Valid.{valid_move};
-ghost use Rattle.record.specs.Lens.{no_moves, get_moves, put_moves, named, bare};
+ghost use Rattle.record.specs.Lens.{named, bare};
+ghost use Rattle.structs.specs.Lists.{no_moves, get_moves, put_moves};
 ghost use Rattle.moves.specs.Asked.{answers};
 ghost use Rattle.moves.specs.Ticks.{stays, is_due, after};
 
-use elements::Move;
-use record::Moves;
+use structs::{Move, Moves};
 
 // Stays a struct of its own name: lent's Asked is an event.
 // What a search of the open moves asks for: a packet's identifier, station and sequence number, and its sender.

@@ -19,10 +19,10 @@ use Rattle.machine.proofs.Limits.{ArrayIn, PointIn, Valid}
 use Rattle.machine.proofs.Valid.{setup_in, valid_from_new}
 use Rattle.machine.proofs.Refusal14.{points_all}
 use Rattle.slots.specs.Lists.{over}
-use Rattle.elements.specs.Blanks.{no_association, no_move}
+use Rattle.structs.specs.Blanks.{no_association, no_move}
 use Rattle.record.specs.Lens.{bare, put_point}
 use Rattle.slots.proofs.Over.{take_over, unused_blank}
-use Rattle.elements.specs.Blanks.{no_in_flight}
+use Rattle.structs.specs.Blanks.{no_in_flight}
 use Rattle.network.specs.Lens.{put_points, put, new_point, new_network}
 use Rattle.network.specs.Events.{run_of}
 use Rattle.network.specs.Clean.{BlankPast, CleanPoint, Clean}

@@ -15,17 +15,15 @@ use Rattle.machine.specs.AccessPoint as machine
 use Rattle.machine.specs.Network as floor
 use Rattle.machine.proofs.Renaming.{map_open}
 use Rattle.machine.proofs.Runs.{rename_point, rename_network, nameless}
-use Rattle.record.specs.declared.AccessPoint.{AccessPoint}
-use Rattle.elements.specs.Blanks.{no_association, no_move}
+use Rattle.structs.specs.declared.AccessPoint.{AccessPoint}
+use Rattle.structs.specs.Blanks.{no_association, no_move}
 use Rattle.record.specs.Lens.{named, bare, get_point, put_point}
 use Rattle.slots.proofs.Over.{take_over, over_over, over_blank}
-use Rattle.slots.proofs.Laws.{kept}
 use Rattle.record.proofs.LensLaws.{Fits, point_kept}
-use Rattle.network.specs.declared.Network.{Network}
-use Rattle.elements.specs.Blanks.{no_in_flight}
-use Rattle.network.specs.declared.InFlights.{InFlights}
-use Rattle.elements.specs.declared.InFlight.{InFlight}
-use Rattle.network.specs.Lens.{get_in_flight, put_in_flight, put_points, get, put, new_point, new_network}
+use Rattle.structs.specs.declared.Network.{Network}
+use Rattle.structs.specs.Blanks.{no_in_flight}
+use Rattle.network.specs.Lens.{put_points, get, put, new_point, new_network}
+use Rattle.structs.proofs.Lists.{in_flight_kept}
 
 -- a record's moves have no names
 abbrev pub no_name : ℕ → ℕ
@@ -124,9 +122,6 @@ put_new n t r f g e h k =
     rw (points_anew 8 f.points g.points e h.points k.points, over_blank no_in_flight 64 f.in_flight g.in_flight h.air k.air)
 
 -- What was got is put back
-
-pub in_flight_kept : (t : InFlights) → t.count ≤ length t.items → put_in_flight t (get_in_flight t) ≡ t
-in_flight_kept t h = kept (λ (xs : List InFlight) (n : ℕ). record { items = xs; count = n }) no_in_flight t.count t.items h
 
 pub points_kept : (n : ℕ) (xs : List AccessPoint) → All Fits (take n xs) → put_points xs (map get_point (take n xs)) ≡ xs
 unfolding put_points

@@ -9,7 +9,7 @@ use borrow.Author.Tests.{leb-true}
 use lib.ListN.{length, take, length-map}
 use lib.Seq.{length-take-le}
 use Rattle.lists.specs.Table.{accepts}
-use Rattle.lists.specs.Places.{every, All}
+use Rattle.lists.specs.Places.{every}
 use Rattle.lists.proofs.Choices.{and_left, and_right}
 use Rattle.lists.proofs.Every.{all_take, every_all}
 use Rattle.machine.specs.Moves.{nothing}
@@ -17,12 +17,12 @@ use Rattle.machine.specs.Events.{Event, Formed, refusal, given_up_count, quiet, 
 use Rattle.machine.specs.Valid.{valid_setup, valid_network}
 use Rattle.machine.proofs.Valid.{SetupIn, setup_in, valid_step}
 use Rattle.machine.proofs.Refusal14.{NetworkTyped, valid_in, valid_kept}
-use Rattle.record.specs.declared.AccessPoint.{AccessPoint}
+use Rattle.structs.specs.declared.AccessPoint.{AccessPoint}
 use Rattle.record.specs.Lens.{get_point}
 use Rattle.record.specs.Valid.{valid_record, Usable}
 use Rattle.record.proofs.LensLaws.{Fits}
 use Rattle.record.proofs.ValidLaws.{valid_says}
-use Rattle.network.specs.declared.Network.{Network}
+use Rattle.structs.specs.declared.Network.{Network}
 use Rattle.network.specs.Sizes.{PointSized, Sized}
 use Rattle.network.specs.Lens.{get}
 use Rattle.network.specs.Events.{valid_network_record, Reply, reply_of, line_of, refused, event_of}

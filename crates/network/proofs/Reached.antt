@@ -23,7 +23,7 @@ use Rattle.machine.proofs.Runs.{nameless, rename_outcome, step_renamed}
 use Rattle.machine.proofs.Claim.{claim}
 use Rattle.slots.specs.Lists.{over}
 use Rattle.record.specs.Lens.{put_point}
-use Rattle.network.specs.declared.Network.{Network}
+use Rattle.structs.specs.declared.Network.{Network}
 use Rattle.network.specs.Lens.{put_points, get, put, new_point, new_network}
 use Rattle.network.specs.Events.{valid_network_record, line_of, Reply, reply_of, refused, event_of, run_of, lines_of}
 use Rattle.network.specs.Demand.{entry_line, entry_network, networks_of, answered_of, Demand}

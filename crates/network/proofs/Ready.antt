@@ -21,14 +21,14 @@ use Rattle.machine.proofs.Valid.{valid_step}
 use Rattle.machine.proofs.Renaming.{map_open}
 use Rattle.machine.proofs.Refusal14.{MoveTyped, PointTyped, NetworkTyped, valid_in, valid_kept}
 use Rattle.machine.proofs.Runs.{rename_point, rename_network, nameless}
-use Rattle.record.specs.declared.AccessPoint.{AccessPoint}
-use Rattle.elements.specs.Blanks.{no_association, no_move}
+use Rattle.structs.specs.declared.AccessPoint.{AccessPoint}
+use Rattle.structs.specs.Blanks.{no_association, no_move}
 use Rattle.record.specs.Lens.{bare, put_point}
 use Rattle.slots.proofs.Over.{length_over}
 use Rattle.record.proofs.LensLaws.{Fits}
-use Rattle.network.specs.contracts.Network as N
-use Rattle.network.specs.declared.Network.{Network}
-use Rattle.elements.specs.Blanks.{no_in_flight}
+use Rattle.structs.specs.contracts.Network as N
+use Rattle.structs.specs.declared.Network.{Network}
+use Rattle.structs.specs.Blanks.{no_in_flight}
 use Rattle.network.specs.Lens.{put_points, get, put}
 use Rattle.network.specs.Events.{valid_network_record, Reply, reply_of, event_of}
 use Rattle.network.proofs.LensLaws.{no_name, get_put, Small, SmallNetwork, NetworkFits}

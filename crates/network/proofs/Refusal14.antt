@@ -17,13 +17,13 @@ use Rattle.machine.specs.Events.{Event}
 use Rattle.machine.specs.Valid.{valid_association, distinct, valid_move, valid_point, valid_network}
 use Rattle.machine.proofs.Renaming.{map_open}
 use Rattle.machine.proofs.Runs.{rename_point}
-use Rattle.record.specs.declared.AccessPoint.{AccessPoint}
+use Rattle.structs.specs.declared.AccessPoint.{AccessPoint}
 use Rattle.record.specs.Lens.{bare, put_point}
 use Rattle.record.specs.Valid.{valid_record}
-use Rattle.network.specs.declared.Network.{Network}
+use Rattle.structs.specs.declared.Network.{Network}
 use Rattle.network.specs.Lens.{put_points, put}
 use Rattle.network.specs.Events.{valid_network_record, refused, event_of}
-use Rattle.elements.specs.Blanks.{no_in_flight}
+use Rattle.structs.specs.Blanks.{no_in_flight}
 use Rattle.slots.proofs.Over.{take_over}
 use Rattle.network.proofs.LensLaws.{no_name, point_got}
 

@@ -8,10 +8,10 @@ use denote.Shadow.{shadow}
 use denote.Laws.{Is}
 use denote.Struct.Declared.{row}
 use Rattle.lists.specs.Places.{All, nil, cons}
-use Rattle.record.specs.contracts.AccessPoint as A
+use Rattle.structs.specs.contracts.AccessPoint as A
 use Rattle.record.proofs.Sizes.{association_slots, move_slots}
-use Rattle.network.specs.contracts.Network as N
-use Rattle.network.specs.declared.Network.{Network}
+use Rattle.structs.specs.contracts.Network as N
+use Rattle.structs.specs.declared.Network.{Network}
 use Rattle.network.specs.Sizes.{Sized}
 
 -- what the type says of each element of an array

@@ -12,19 +12,19 @@ use denote.Laws.{Is}
 use denote.Struct.Declared.{row}
 use Rattle.lists.specs.Places.{All, nil, cons}
 use Rattle.lists.proofs.Every.{all_take}
-use Rattle.elements.specs.contracts.Association as R
-use Rattle.elements.specs.contracts.Move as M
-use Rattle.elements.specs.contracts.InFlight as F
-use Rattle.elements.specs.declared.Association.{Association}
-use Rattle.elements.specs.declared.Move.{Move}
-use Rattle.elements.specs.declared.InFlight.{InFlight}
+use Rattle.structs.specs.contracts.Association as R
+use Rattle.structs.specs.contracts.Move as M
+use Rattle.structs.specs.contracts.InFlight as F
+use Rattle.structs.specs.declared.Association.{Association}
+use Rattle.structs.specs.declared.Move.{Move}
+use Rattle.structs.specs.declared.InFlight.{InFlight}
 use Rattle.machine.specs.Events.{Event, Octet, Formed}
 use Rattle.machine.proofs.Refusal14.{AssociationTyped, MoveTyped, PointTyped, InFlightTyped, NetworkTyped}
-use Rattle.record.specs.contracts.AccessPoint as A
-use Rattle.record.specs.declared.AccessPoint.{AccessPoint}
+use Rattle.structs.specs.contracts.AccessPoint as A
+use Rattle.structs.specs.declared.AccessPoint.{AccessPoint}
 use Rattle.record.specs.Lens.{named, get_point}
-use Rattle.network.specs.contracts.Network as N
-use Rattle.network.specs.declared.Network.{Network}
+use Rattle.structs.specs.contracts.Network as N
+use Rattle.structs.specs.declared.Network.{Network}
 use Rattle.network.specs.Lens.{get}
 use Rattle.network.specs.Events.{valid_network_record, event_of}
 use Rattle.network.proofs.LensLaws.{NetworkFits}

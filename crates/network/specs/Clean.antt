@@ -1,14 +1,14 @@
 -- What a record holds past its used parts, if nothing was left behind there.
 use Rattle.std.specs.Prelude.{ℕ, ◌≡◌, List, take, drop}
 use Rattle.lists.specs.Places.{All}
-use Rattle.elements.specs.declared.Association.{Association}
-use Rattle.elements.specs.declared.InFlight.{InFlight}
-use Rattle.record.specs.declared.AccessPoint.{AccessPoint}
-use Rattle.elements.specs.Blanks.{no_association, no_move}
-use Rattle.record.specs.Lens.{get_associations}
-use Rattle.network.specs.declared.Network.{Network}
-use Rattle.elements.specs.Blanks.{no_in_flight}
-use Rattle.network.specs.Lens.{get_in_flight, new_point}
+use Rattle.structs.specs.declared.Association.{Association}
+use Rattle.structs.specs.declared.InFlight.{InFlight}
+use Rattle.structs.specs.declared.AccessPoint.{AccessPoint}
+use Rattle.structs.specs.Blanks.{no_association, no_move}
+use Rattle.structs.specs.Lists.{get_associations, get_in_flight}
+use Rattle.structs.specs.declared.Network.{Network}
+use Rattle.structs.specs.Blanks.{no_in_flight}
+use Rattle.network.specs.Lens.{new_point}
 
 -- of an array of which k slots are used, the others hold b
 abbrev pub BlankPast : {A : Type 0} → A → ℕ → List A → Type 0

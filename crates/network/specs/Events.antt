@@ -8,8 +8,9 @@ use Rattle.machine.specs.Events.{Event, tick, Outcome, given_up_count, step}
 use Rattle.machine.specs.Valid.{distinct, valid_point, valid_in_flight, valid_setup}
 use Rattle.record.specs.Lens.{get_point}
 use Rattle.record.specs.Valid.{valid_record}
-use Rattle.network.specs.declared.Network.{Network}
-use Rattle.network.specs.Lens.{get_in_flight, get, put, new_point, new_network}
+use Rattle.structs.specs.declared.Network.{Network}
+use Rattle.network.specs.Lens.{get, put, new_point, new_network}
+use Rattle.structs.specs.Lists.{get_in_flight}
 
 -- 14 does not apply: "a used length, size, AP count, T, R, sequence number, ticks or resends left, or AP number", "two rows of
 -- one station at one AP", "a packet in the air that the reader refuses"

@@ -1,26 +1,15 @@
 -- The record of a network and the machine's network: `get` takes the used parts, `put` writes them back. The slots that became
 -- free are blank, and the others are kept, as are the access points past the AP count.
 use Rattle.std.specs.Prelude.{ℕ, ◌≡◌, refl, List, [], ◌∷◌, map, length, take, replicate}
-use Rattle.network.specs.declared.InFlights.{InFlights}
 use Rattle.slots.specs.Lists.{over}
-use Rattle.elements.specs.declared.InFlight.{InFlight}
+use Rattle.structs.specs.declared.InFlight.{InFlight}
 use Rattle.machine.specs.AccessPoint as machine
 use Rattle.machine.specs.Network as floor
-use Rattle.record.specs.declared.AccessPoint.{AccessPoint}
-use Rattle.elements.specs.Blanks.{no_association, no_move, no_in_flight}
+use Rattle.structs.specs.declared.AccessPoint.{AccessPoint}
+use Rattle.structs.specs.Blanks.{no_association, no_move, no_in_flight}
+use Rattle.structs.specs.Lists.{get_in_flight, put_in_flight}
 use Rattle.record.specs.Lens.{get_point, put_point}
-use Rattle.network.specs.declared.Network.{Network}
-
--- the packets in flight: "up to 64 packets in order of sending"
-
-abbrev pub no_in_flights : InFlights
-no_in_flights = record { items = replicate 64 no_in_flight; count = 0 }
-
-abbrev pub get_in_flight : InFlights → List InFlight
-get_in_flight t = take t.count t.items
-
-abbrev pub put_in_flight : InFlights → List InFlight → InFlights
-put_in_flight t ws = record { items = over no_in_flight t.count ws t.items; count = length ws }
+use Rattle.structs.specs.declared.Network.{Network}
 
 -- the access points: "The floor has 1..8 APs numbered from 0"
 
@@ -84,10 +73,6 @@ packet = record { from = 0; to = 1; len = 1; octets = 7 ∷ replicate 81 0 }
 pub new_blank : (new_network 2 1 0).in_flight.items ≡ replicate 64 no_in_flight
 unfolding new_network
 new_blank = refl
-
-pub freed_blank : put_in_flight (record { items = packet ∷ packet ∷ []; count = 2 }) (packet ∷ []) ≡ record { items = packet ∷ no_in_flight ∷ []; count = 1 }
-unfolding over
-freed_blank = refl
 
 pub packets_put : get_in_flight (put (new_network 2 1 0) (record { points = []; in_flight = packet ∷ []; timeout = 1; resend_limit = 0 })).in_flight ≡ packet ∷ []
 unfolding put over new_network

@@ -1,8 +1,8 @@
 -- The sizes of a network's arrays, which the types of its parts say: a function that is lent the record asks for them.
 use Rattle.std.specs.Prelude.{◌≡◌, length}
 use Rattle.lists.specs.Places.{All}
-use Rattle.record.specs.declared.AccessPoint.{AccessPoint}
-use Rattle.network.specs.declared.Network.{Network}
+use Rattle.structs.specs.declared.AccessPoint.{AccessPoint}
+use Rattle.structs.specs.declared.Network.{Network}
 
 pub record PointSized (a : AccessPoint) : Type 0 where
   pub associations : length a.associations.items ≡ 16

@@ -4,14 +4,15 @@ use Rattle.std.proofs.Common.{◌≡◌, ℕ, ◌+◌, ◌%◌, ◌^◌, ◌<◌
 use Rattle.lists.specs.Places.{without}
 use Rattle.lists.specs.Search.{index_by, placed}
 use Rattle.sequence.specs.Distance.{newer_of}
-use Rattle.elements.specs.declared.Association.{Association}
+use Rattle.structs.specs.declared.Association.{Association}
 use Rattle.machine.specs.Stations.{Station}
 use Rattle.machine.specs.Associations.{given, association, dissociate_older}
 use Rattle.machine.specs.Packets.{message_of}
 use Rattle.machine.specs.Moves.{agrees}
 use Rattle.machine.specs.AccessPoint.{Action, with_associations, leave_by, receive_by}
-use Rattle.record.specs.declared.AccessPoint.{AccessPoint}
-use Rattle.record.specs.Lens.{get_associations, put_associations, get_moves, put_moves, get_point, put_point}
+use Rattle.structs.specs.declared.AccessPoint.{AccessPoint}
+use Rattle.record.specs.Lens.{get_point, put_point}
+use Rattle.structs.specs.Lists.{get_associations, put_associations, get_moves, put_moves}
 use Rattle.record.proofs.LensLaws.{point_kept, put_associations_lem}
 use Rattle.record.proofs.ValidLaws.{context_within}
 use Rattle.excerpt.specs.declared.Edit.{Edit}
@@ -23,8 +24,8 @@ use Rattle.moves.specs.Asked.{asked}
 use Rattle.receiving.specs.declared.Reply.TheVariants.{Successful, StaleMove}
 use Rattle.receiving.specs.Receive.{empty_reply, notify_reply, answered_by}
 use Rattle.receiving.proofs.Rules.{left_none, left_gone, leave_is, older_by, stays_answered, filled_answered, gone_answered, response_is, response_none, response_closes}
-use Rattle.record.specs.declared.Moves.{Moves}
-use Rattle.elements.specs.Blanks.{no_association}
+use Rattle.structs.specs.declared.Moves.{Moves}
+use Rattle.structs.specs.Blanks.{no_association}
 use lib.Seq.{length-take-le}
 
 module _ (s : Station) (a : AccessPoint) (x : Excerpt) (q : Seen s a x) where

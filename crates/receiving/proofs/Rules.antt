@@ -8,15 +8,16 @@ use Rattle.lists.proofs.Search.{without_past}
 use Rattle.lists.proofs.Choices.{by_option}
 use Rattle.sequence.specs.Distance.{newer_of}
 use Rattle.reader.specs.Read.{Reading}
-use Rattle.elements.specs.declared.Association.{Association}
+use Rattle.structs.specs.declared.Association.{Association}
 use Rattle.machine.specs.Associations.{given, association, context_octets, dissociate, dissociate_older, dissociate_exactly, fill}
 use Rattle.machine.specs.Packets.{Packet, message_of, packet_of}
 use Rattle.machine.specs.Moves.{agrees, earliest, answering, counts_after, counted}
 use Rattle.machine.specs.AccessPoint as machine
 use Rattle.machine.specs.AccessPoint.{Action, with_associations, with_moves, quietly, leave_by, answer_to, answering_with, receive_add, receive_notify, receive_response, receive_by, receive}
 use Rattle.machine.specs.Valid.{distinct}
-use Rattle.record.specs.declared.AccessPoint.{AccessPoint}
-use Rattle.record.specs.Lens.{get_associations, put_associations, get_moves, put_moves, get_point, put_point}
+use Rattle.structs.specs.declared.AccessPoint.{AccessPoint}
+use Rattle.record.specs.Lens.{get_point, put_point}
+use Rattle.structs.specs.Lists.{get_associations, put_associations, get_moves, put_moves}
 use Rattle.record.proofs.LensLaws.{Fits, put_parts, point_kept}
 use Rattle.associations.specs.Rows.{is_of}
 use Rattle.associations.proofs.Laws.{sequence_at, context_at, dissociate_at, older_at, exactly_at, fill_at}
@@ -24,8 +25,8 @@ use Rattle.moves.specs.Asked.{asked}
 use Rattle.moves.proofs.Laws.{asked_by, earliest_asked, close_asked, earliest_at, close_at}
 use Rattle.receiving.specs.declared.Reply.{Reply}
 use Rattle.receiving.specs.Receive.{message_in, replies_of, result_of, handled_by, notify_reply, answered_by}
-use Rattle.record.specs.declared.Moves.{Moves}
-use Rattle.elements.specs.Blanks.{no_association, no_move}
+use Rattle.structs.specs.declared.Moves.{Moves}
+use Rattle.structs.specs.Blanks.{no_association, no_move}
 use lib.Seq.{length-take-le}
 
 -- one station's association in the list rs: at place i, which is the length where there is none

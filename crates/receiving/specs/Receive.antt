@@ -4,19 +4,19 @@ use Rattle.lists.specs.Search.{index_by}
 use Rattle.sequence.specs.Distance.{newer_of}
 use Rattle.packet.specs.declared.Command.{Command}
 use Rattle.packet.specs.declared.Command.TheVariants.{AddNotify, MoveNotify, MoveResponse}
-use Rattle.elements.specs.declared.Association.{Association}
+use Rattle.structs.specs.declared.Association.{Association}
 use Rattle.machine.specs.Stations.{Station}
 use Rattle.machine.specs.Associations.{dissociate_exactly, fill}
 use Rattle.machine.specs.Packets.{Message, successful, stale_move, Packet, Outgoing}
 use Rattle.machine.specs.AccessPoint.{Action, answer_to, receive}
-use Rattle.record.specs.declared.AccessPoint.{AccessPoint}
+use Rattle.structs.specs.declared.AccessPoint.{AccessPoint}
 use Rattle.record.specs.Lens.{get_point, put_point}
 use Rattle.associations.specs.Rows.{is_of}
 use Rattle.excerpt.specs.Excerpts.{put_back}
 use Rattle.receiving.specs.declared.Reply.{Reply}
 use Rattle.receiving.specs.declared.Reply.TheVariants.{Successful, StaleMove}
 use Rattle.receiving.specs.declared.Handled.{Handled}
-use Rattle.elements.specs.Blanks.{no_association}
+use Rattle.structs.specs.Blanks.{no_association}
 
 -- what an answer says: its status, and the octets of its context
 abbrev pub message_in : Reply → Message

@@ -8,17 +8,18 @@ ghost use Rattle.machine.specs.Stations.{Station};
 ghost use Rattle.machine.specs.Associations.{dissociate_older};
 ghost use Rattle.machine.specs.Packets.{packet_of, message_of};
 ghost use Rattle.machine.specs.AccessPoint.{with_associations, leave_by, receive_by};
-ghost use Rattle.record.specs.declared.AccessPoint.{AccessPoint};
-ghost use Rattle.record.specs.Lens.{get_associations, get_point, put_point};
+ghost use Rattle.structs.specs.declared.AccessPoint.{AccessPoint};
+ghost use Rattle.record.specs.Lens.{get_point, put_point};
+ghost use Rattle.structs.specs.Lists.{get_associations};
 ghost use Rattle.excerpt.specs.Excerpts.{Allowed, put_back, Seen};
 ghost use Rattle.moves.specs.Asked.{asked};
 ghost use Rattle.receiving.specs.Receive.{IsShort, notify_reply, reply_to, answered_by, handled_of, handled_by};
 
-use elements::Association;
 use excerpt::{Edit, Excerpt};
 use moves::Asked;
 use packet::Command;
 use reader::Received;
+use structs::Association;
 
 // The answer to a MOVE-notify. A SUCCESSFUL one has its context in the first len octets; a STALE_MOVE has none. The length stays beside the
 // octets: that the row's context is within its array holds of an excerpt that is seen, and of no slice taken before.

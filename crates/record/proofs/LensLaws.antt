@@ -4,16 +4,16 @@ use Prim.Native.Nat.{ℕ, ◌≤◌}
 use mathlib.Core.Path.{◌≡◌, refl, sym, ap, ◌∙◌}
 use mathlib.Core.List.{List, [], ◌∷◌, map}
 use lib.ListN.{length}
-use Rattle.slots.proofs.Laws.{kept}
-use Rattle.elements.specs.declared.Association.{Association}
-use Rattle.elements.specs.declared.Move.{Move}
-use Rattle.elements.specs.Blanks.{no_association, no_move}
+use Rattle.structs.specs.declared.Association.{Association}
+use Rattle.structs.specs.declared.Move.{Move}
 use Rattle.machine.specs.AccessPoint as machine
 use Rattle.machine.specs.AccessPoint.{with_associations}
-use Rattle.record.specs.declared.Associations.{Associations}
-use Rattle.record.specs.declared.Moves.{Moves}
-use Rattle.record.specs.declared.AccessPoint.{AccessPoint}
-use Rattle.record.specs.Lens.{get_associations, put_associations, get_moves, put_moves, named, bare, get_point, put_point}
+use Rattle.structs.specs.declared.Associations.{Associations}
+use Rattle.structs.specs.declared.Moves.{Moves}
+use Rattle.structs.specs.declared.AccessPoint.{AccessPoint}
+use Rattle.record.specs.Lens.{named, bare, get_point, put_point}
+use Rattle.structs.specs.Lists.{put_associations, get_moves, put_moves}
+use Rattle.structs.proofs.Lists.{associations_kept, moves_kept}
 
 -- moves without names
 
@@ -21,14 +21,6 @@ pub bare_named : (ms : List Move) → map bare (map named ms) ≡ ms
 unfolding bare named
 bare_named [] = refl
 bare_named (m ∷ ms) = ap (◌∷◌ m) (bare_named ms)
-
--- a list put back as it was got
-
-pub associations_kept : (t : Associations) → t.count ≤ length t.items → put_associations t (get_associations t) ≡ t
-associations_kept t h = kept (λ (xs : List Association) (n : ℕ). record { items = xs; count = n }) no_association t.count t.items h
-
-pub moves_kept : (t : Moves) → t.count ≤ length t.items → put_moves t (get_moves t) ≡ t
-moves_kept t h = kept (λ (xs : List Move) (n : ℕ). record { items = xs; count = n }) no_move t.count t.items h
 
 -- one access point
 

@@ -7,8 +7,8 @@ use denote.Laws.{Is}
 use denote.Struct.Declared.{row}
 use mir.Val.{Val}
 use lib.ListN.{length}
-use Rattle.record.specs.contracts.AccessPoint as A
-use Rattle.record.specs.declared.AccessPoint.{AccessPoint}
+use Rattle.structs.specs.contracts.AccessPoint as A
+use Rattle.structs.specs.declared.AccessPoint.{AccessPoint}
 use Rattle.record.specs.Valid.{Usable}
 use Rattle.record.proofs.LensLaws.{Fits}
 

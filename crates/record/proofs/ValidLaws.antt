@@ -11,10 +11,11 @@ use lib.Dec.{leb}
 use lib.ListN.{length, get_or, length-map}
 use Rattle.lists.specs.Places.{every}
 use Rattle.lists.proofs.Choices.{and_left, and_right}
-use Rattle.elements.specs.declared.Association.{Association}
+use Rattle.structs.specs.declared.Association.{Association}
 use Rattle.machine.specs.Valid.{valid_association, distinct, valid_move, valid_point}
-use Rattle.record.specs.declared.AccessPoint.{AccessPoint}
-use Rattle.record.specs.Lens.{get_associations, get_moves, named, get_point}
+use Rattle.structs.specs.declared.AccessPoint.{AccessPoint}
+use Rattle.record.specs.Lens.{named, get_point}
+use Rattle.structs.specs.Lists.{get_associations, get_moves}
 use Rattle.record.specs.Valid.{valid_record, Usable}
 use lib.Seq.{length-take-le}
 

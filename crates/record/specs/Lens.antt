@@ -1,35 +1,13 @@
 -- The record and the machine's access point: `get` takes the used part of each array, `put` writes the lists back over the front
 -- of the arrays, blanks the slots that became free and keeps the others.
-use Rattle.std.specs.Prelude.{List, map, length, take, replicate}
-use Rattle.slots.specs.Lists.{over}
-use Rattle.elements.specs.declared.Association.{Association}
-use Rattle.elements.specs.declared.Move.{Move}
-use Rattle.elements.specs.Blanks.{no_association, no_move}
+use Rattle.std.specs.Prelude.{map}
+use Rattle.structs.specs.declared.Move.{Move}
+use Rattle.structs.specs.Lists.{get_associations, put_associations, get_moves, put_moves}
 use Rattle.machine.specs.Moves.{Open}
 use Rattle.machine.specs.AccessPoint as machine
 use Rattle.machine.specs.Lone as lone
-use Rattle.record.specs.declared.Associations.{Associations}
-use Rattle.record.specs.declared.Moves.{Moves}
-use Rattle.record.specs.declared.AccessPoint.{AccessPoint}
-use Rattle.record.specs.declared.LoneAccessPoint.{LoneAccessPoint}
-
-abbrev pub no_associations : Associations
-no_associations = record { items = replicate 16 no_association; count = 0 }
-
-abbrev pub get_associations : Associations → List Association
-get_associations t = take t.count t.items
-
-abbrev pub put_associations : Associations → List Association → Associations
-put_associations t xs = record { items = over no_association t.count xs t.items; count = length xs }
-
-abbrev pub no_moves : Moves
-no_moves = record { items = replicate 8 no_move; count = 0 }
-
-abbrev pub get_moves : Moves → List Move
-get_moves t = take t.count t.items
-
-abbrev pub put_moves : Moves → List Move → Moves
-put_moves t xs = record { items = over no_move t.count xs t.items; count = length xs }
+use Rattle.structs.specs.declared.AccessPoint.{AccessPoint}
+use Rattle.structs.specs.declared.LoneAccessPoint.{LoneAccessPoint}
 
 -- the machine names its moves for the history; a record's moves have no name
 

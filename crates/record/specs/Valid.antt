@@ -3,9 +3,10 @@
 use Rattle.std.specs.Prelude.{ℕ, ◌≤◌, ◌≡◌, Bool, true, ◌&&◌, ltb, leb}
 use Rattle.lists.specs.Places.{every}
 use Rattle.machine.specs.Valid.{valid_association, distinct, valid_point, valid_setup}
-use Rattle.record.specs.declared.AccessPoint.{AccessPoint}
-use Rattle.record.specs.declared.LoneAccessPoint.{LoneAccessPoint}
-use Rattle.record.specs.Lens.{get_associations, get_point}
+use Rattle.structs.specs.declared.AccessPoint.{AccessPoint}
+use Rattle.structs.specs.declared.LoneAccessPoint.{LoneAccessPoint}
+use Rattle.record.specs.Lens.{get_point}
+use Rattle.structs.specs.Lists.{get_associations}
 
 -- one access point's record, where the AP count is k
 unfoldable pub valid_record : ℕ → AccessPoint → Bool

@@ -16,7 +16,7 @@ use Rattle.machine.specs.Events.{unknown_point, unknown_packet, group_address, e
 use Rattle.machine.specs.Valid.{valid_setup}
 use Rattle.machine.specs.History.{after, begin}
 use Rattle.script.specs.Text.{octets_of, on_first, split}
-use Rattle.script.specs.Fields.{is_dash, is_digit, value_from, is_plain, is_number, number_in, is_hex, hex_of, octets_in, station_in, context_in, digit, decimal}
+use Rattle.script.specs.Fields.{value_from, is_plain, is_number, number_in, octets_in, station_in, context_in, digit, decimal}
 use Rattle.script.specs.EventLine.{named_in, kind_in, number_field, station_field, old_field, context_field, said_with, said_fields, said_of, event_said, event_in}
 use Rattle.script.specs.SetUpLines.{set_up_names, event_names, limited, value_fields, values_in, set_up_in, event_lines}
 use Rattle.script.specs.Result.{result_names, field, held_fields, result_as, result_of}

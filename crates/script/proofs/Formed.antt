@@ -15,8 +15,8 @@ use Rattle.lists.proofs.Bools.{by_cond}
 use Rattle.lists.proofs.Every.{all_replicate}
 use Rattle.machine.specs.Stations.{Station}
 use Rattle.machine.specs.Events.{Octet, StationIn, Formed}
-use Rattle.events.specs.declared.Kind.{Kind}
-use Rattle.events.specs.declared.Kind.TheVariants.{Join, Leave, Deliver, Repeat, Lose, Tick, Who}
+use Rattle.structs.specs.declared.Kind.{Kind}
+use Rattle.structs.specs.declared.Kind.TheVariants.{Join, Leave, Deliver, Repeat, Lose, Tick, Who}
 use Rattle.events.specs.Event.{event_as}
 use Rattle.script.specs.Text.{fields}
 use Rattle.script.specs.Fields.{is_dash, is_digit, is_hex, hex_of, octets_in, station_in, context_in}

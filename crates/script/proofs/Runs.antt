@@ -17,7 +17,7 @@ use Rattle.machine.specs.Events.{Event, Formed, step}
 use Rattle.machine.specs.History.{World, after, run, begin}
 use Rattle.machine.specs.Valid.{valid_setup}
 use Rattle.machine.specs.Claim.{Claim}
-use Rattle.network.specs.declared.Network.{Network}
+use Rattle.structs.specs.declared.Network.{Network}
 use Rattle.network.specs.Lens.{new_network}
 use Rattle.network.specs.Events.{Line, Reply, line_of, event_of, run_of}
 use Rattle.network.proofs.Reached.{demand}

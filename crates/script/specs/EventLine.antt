@@ -5,8 +5,8 @@ use Rattle.lists.specs.Options.{case_option}
 use Rattle.lists.specs.Places.{every}
 use Rattle.machine.specs.Stations.{Station, same}
 use Rattle.machine.specs.Events.{Event, join, tick}
-use Rattle.events.specs.declared.Kind.{Kind}
-use Rattle.events.specs.declared.Kind.TheVariants.{Join, Leave, Deliver, Repeat, Lose, Tick, Who}
+use Rattle.structs.specs.declared.Kind.{Kind}
+use Rattle.structs.specs.declared.Kind.TheVariants.{Join, Leave, Deliver, Repeat, Lose, Tick, Who}
 use Rattle.events.specs.Event.{event_as}
 use Rattle.script.specs.Text.{octets_of, split, on_first, fields}
 use Rattle.script.specs.Fields.{is_dash, value_from, is_plain, is_number, number_in, octets_in, station_in, context_in}

@@ -5,8 +5,8 @@ use Rattle.answers.specs.declared.Refusal.TheVariants.{InvalidRecord, Unreadable
 use Rattle.answers.specs.Numbers.{refusal_number}
 use Rattle.machine.specs.Events.{Event, join, leave, deliver, repeat, lose, tick, who}
 use Rattle.network.specs.Events.{Line}
-use Rattle.events.specs.declared.Kind.{Kind}
-use Rattle.events.specs.declared.Kind.TheVariants.{Join, Leave, Deliver, Repeat, Lose, Tick, Who}
+use Rattle.structs.specs.declared.Kind.{Kind}
+use Rattle.structs.specs.declared.Kind.TheVariants.{Join, Leave, Deliver, Repeat, Lose, Tick, Who}
 use Rattle.events.specs.Event.{is_who}
 use Rattle.script.specs.Text.{octets_of}
 use Rattle.script.specs.Fields.{decimal, digit}

@@ -1,11 +1,10 @@
 -- Document 01, "Floor rehearsal": what a whole script prints, and what is proved of its events.
 use Rattle.std.specs.Prelude.{ℕ, ◌≡◌, List, [], ◌∷◌, ◌++◌, length}
-use Rattle.std.specs.Prelude.{Some}
 use Rattle.lists.specs.Options.{case_option}
 use Rattle.machine.specs.Events.{Event, step}
 use Rattle.machine.specs.History.{World, after, run, begin}
 use Rattle.machine.specs.Claim.{Claim}
-use Rattle.network.specs.declared.Network.{Network}
+use Rattle.structs.specs.declared.Network.{Network}
 use Rattle.network.specs.Events.{line_of, event_of, run_of}
 use Rattle.script.specs.Text.{lines}
 use Rattle.script.specs.EventLine.{event_in}

@@ -10,7 +10,7 @@ use Rattle.lists.proofs.Choices.{by_bool, by_option}
 use Rattle.lists.proofs.Bools.{by_cond}
 use Rattle.lists.proofs.Every.{all_append}
 use Rattle.machine.specs.Stations.{same}
-use Rattle.network.specs.declared.Network.{Network}
+use Rattle.structs.specs.declared.Network.{Network}
 use Rattle.network.specs.Lens.{new_network}
 use Rattle.script.specs.Text.{on_first, split, lines}
 use Rattle.script.specs.EventLine.{said_of, event_in}

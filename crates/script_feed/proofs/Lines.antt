@@ -11,9 +11,9 @@ use Rattle.lists.proofs.Every.{all_take, all_replicate}
 use Rattle.machine.specs.Stations.{same}
 use Rattle.machine.specs.Valid.{valid_setup}
 use Rattle.machine.proofs.Refusal14.{PointTyped}
-use Rattle.record.specs.declared.AccessPoint.{AccessPoint}
+use Rattle.structs.specs.declared.AccessPoint.{AccessPoint}
 use Rattle.record.specs.Lens.{get_point}
-use Rattle.network.specs.declared.Network.{Network}
+use Rattle.structs.specs.declared.Network.{Network}
 use Rattle.network.specs.Lens.{get, new_point, new_network}
 use Rattle.network.specs.Sizes.{PointSized}
 use Rattle.network.proofs.Reached.{new_valid}

@@ -4,7 +4,7 @@ use Rattle.std.proofs.Common.{ℕ, ◌+◌, ◌*◌, ◌≤◌, ◌≡◌, refl,
 use Rattle.lists.proofs.Bools.{by_cond}
 use Rattle.lists.proofs.Choices.{by_option}
 use Rattle.machine.specs.Stations.{same}
-use Rattle.network.specs.declared.Network.{Network}
+use Rattle.structs.specs.declared.Network.{Network}
 use Rattle.script.specs.EventLine.{event_in}
 use Rattle.script.specs.SetUpLines.{set_up_names, event_names, values_in}
 use Rattle.script.specs.Result.{result_names, bad_set_up}

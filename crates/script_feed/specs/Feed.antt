@@ -5,7 +5,7 @@ use Rattle.lists.specs.Places.{every}
 use Rattle.machine.specs.Stations.{same}
 use Rattle.machine.specs.Network.{setup_tests}
 use Rattle.machine.specs.Valid.{valid_setup}
-use Rattle.network.specs.declared.Network.{Network}
+use Rattle.structs.specs.declared.Network.{Network}
 use Rattle.network.specs.Lens.{new_network}
 use Rattle.network.specs.Sizes.{Sized}
 use Rattle.network.specs.Events.{valid_network_record}

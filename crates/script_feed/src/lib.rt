@@ -13,7 +13,7 @@ ghost use Rattle.script_runner.specs.Played.{text_in, after_line};
 ghost use Rattle.script_feed.specs.declared.Stage.TheVariants.{Ended};
 ghost use Rattle.script_feed.specs.Feed.{line_ended, kept_ended, octet_fed, fed, shown, last_turn, closing, finished, CutAnyhow, ended, feeding_of, Good, Held};
 
-use network::Network;
+use structs::Network;
 
 // Which line comes next: the names of the set-up, its values, the names of the events, a line of an event; or none, after a bad set-up.
 #[derive(Clone, Copy)]

@@ -4,7 +4,7 @@ use Rattle.std.proofs.Common.{◌≡◌, refl, ℕ, List, [], ◌∷◌, Bool, t
 use Rattle.std.proofs.lemmas.Bool.{not-true, not-false}
 use Rattle.std.specs.Cmp.Lexicographic.{pointwise}
 use Rattle.machine.specs.Stations.{same}
-use Rattle.events.specs.declared.Kind.{Kind}
+use Rattle.structs.specs.declared.Kind.{Kind}
 use Rattle.script.specs.EventLine.{name_of, named_in}
 
 pub equal_texts : (a b : List ℕ) → pointwise eqb a b ≡ same a b

@@ -7,7 +7,7 @@ ghost use Rattle.script.specs.Put.{front, front_given};
 ghost use Rattle.script.specs.Fields.{is_dash, number_in, is_hex, hex_of, octets_in, station_in, context_in};
 ghost use Rattle.script.specs.EventLine.{name_of, kind_in, has_at, has_station, is_join, number_field, station_field, old_field, context_field};
 
-use events::Kind;
+use structs::Kind;
 
 // The seven events, as a field may name them.
 const KINDS: [Kind; 7] = [

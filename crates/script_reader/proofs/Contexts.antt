@@ -4,7 +4,7 @@ use Rattle.std.proofs.Common.{◌≡◌, refl, ℕ, true, List, Option, None, So
 use Rattle.std.proofs.lemmas.Option.{none-some, same_Some}
 use Rattle.lists.specs.Options.{case_option}
 use Rattle.machine.specs.Stations.{Station}
-use Rattle.events.specs.declared.Kind.{Kind}
+use Rattle.structs.specs.declared.Kind.{Kind}
 use Rattle.script.specs.Put.{front_given}
 use Rattle.script.specs.EventLine.{Said}
 use Rattle.script_reader.specs.Heard.{heard_of}

@@ -4,7 +4,7 @@ use Prim.Native.Nat.{ℕ, ◌≤◌}
 use mathlib.Core.Path.{◌≡◌, refl}
 use mathlib.Core.Bool.{true, false}
 use mathlib.Core.List.{List}
-use Rattle.std.specs.Prelude.{Option, None, Some, is_some, unwrap_or}
+use Rattle.std.specs.Prelude.{Option, None, Some}
 use native.Mathlib.Omega.{arith}
 use lib.ListN.{length, take, drop, length-append}
 use lib.Seq.{take-append_seam}
@@ -15,8 +15,7 @@ use Rattle.events.specs.Event.{event_as}
 use Rattle.script.specs.Put.{front_given}
 use Rattle.script.specs.EventLine.{Said, said_of, event_said, event_in}
 use Rattle.script.proofs.Formed.{Of, SaidIn, said_in, event_formed}
-use Rattle.script_reader.specs.declared.Heard as code
-use Rattle.script_reader.specs.Heard.{Heard, nothing_heard, heard_as, heard_from, heard_of, heard_in, context_to}
+use Rattle.script_reader.specs.Heard.{Heard, nothing_heard, heard_of, heard_in, context_to}
 
 -- the event of what was heard, with the context in the lent array
 abbrev pub event_heard : Heard → List ℕ → Event

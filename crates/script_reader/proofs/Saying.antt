@@ -2,7 +2,7 @@
 -- Assumes nothing.
 use Rattle.std.proofs.Common.{◌≡◌, refl, ◌∙◌, ℕ, zero, suc, ◌≤◌, ◌<◌, List, [], ◌∷◌, Bool, true, false, cond, Option, None, Some, eqb, length, get_or, ltb, arith, lt-ltb, le-ltb, ne_eqb}
 use Rattle.lists.specs.Options.{case_option}
-use Rattle.events.specs.declared.Kind.{Kind}
+use Rattle.structs.specs.declared.Kind.{Kind}
 use Rattle.script.specs.Text.{on_first, split, fields}
 use Rattle.script.specs.EventLine.{kind_in, said_with, said_fields, said_of}
 use Rattle.script_reader.proofs.Pieces.{same_either}

@@ -3,8 +3,8 @@ use Rattle.std.specs.Prelude.{ℕ, ◌≡◌, refl, ◌-◌, Bool, true, false, 
 use Rattle.std.specs.Prelude.{Option, None, Some}
 use Rattle.lists.specs.Options.{case_option}
 use Rattle.machine.specs.Stations.{Station}
-use Rattle.events.specs.declared.Kind.{Kind}
-use Rattle.events.specs.declared.Kind.TheVariants.{Who}
+use Rattle.structs.specs.declared.Kind.{Kind}
+use Rattle.structs.specs.declared.Kind.TheVariants.{Who}
 use Rattle.script.specs.Text.{lines}
 use Rattle.script.specs.Put.{front_given}
 use Rattle.script.specs.EventLine.{Said, said_of}

@@ -8,7 +8,7 @@ ghost use Rattle.script.specs.SetUpLines.{values_in};
 ghost use Rattle.script_reader.specs.Heard.{heard_as, heard_from, nothing_heard, heard_in, context_to, values_from, opening_from, opening_in};
 ghost use Rattle.script_reader.specs.Parts.{heard_said, context_said};
 
-use events::{Event, Kind};
+use structs::{Event, Kind};
 
 // A line of more octets is unreadable.
 const LONGEST_LINE: usize = 255;

@@ -8,7 +8,7 @@ use borrow.Author.Tests.{lt-ltb, le-ltb}
 use lib.ListN.{length, take, drop, length-append, length-drop}
 use lib.Seq.{length-take-le, take_all}
 use Rattle.std.specs.Prelude.{None, Some}
-use Rattle.network.specs.declared.Network.{Network}
+use Rattle.structs.specs.declared.Network.{Network}
 use Rattle.network.specs.Events.{run_of}
 use Rattle.network.proofs.Ready.{Ready}
 use Rattle.script.specs.Put.{over, front}

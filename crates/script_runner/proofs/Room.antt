@@ -8,7 +8,7 @@ use lib.Dec.{eqb}
 use lib.ListN.{length, length-append}
 use Rattle.lists.proofs.Choices.{by_option}
 use Rattle.machine.specs.Events.{Event}
-use Rattle.network.specs.declared.Network.{Network}
+use Rattle.structs.specs.declared.Network.{Network}
 use Rattle.network.specs.Events.{event_of}
 use Rattle.script.specs.Text.{on_first, split, lines}
 use Rattle.script.specs.EventLine.{event_in}

@@ -8,11 +8,11 @@ use Rattle.std.specs.Prelude.{Option, None, Some}
 use Rattle.lists.specs.Options.{case_option}
 use Rattle.machine.specs.Stations.{Station}
 use Rattle.machine.specs.Events.{Event, Formed}
-use Rattle.network.specs.declared.Network.{Network}
+use Rattle.structs.specs.declared.Network.{Network}
 use Rattle.network.specs.Events.{Reply, event_of, run_of}
 use Rattle.network.proofs.Ready.{Ready, ready_event}
-use Rattle.events.specs.declared.Kind.{Kind}
-use Rattle.events.specs.declared.Kind.TheVariants.{Join, Leave, Deliver, Repeat, Lose, Tick, Who}
+use Rattle.structs.specs.declared.Kind.{Kind}
+use Rattle.structs.specs.declared.Kind.TheVariants.{Join, Leave, Deliver, Repeat, Lose, Tick, Who}
 use Rattle.events.specs.Event.{event_as}
 use Rattle.script.specs.EventLine.{event_in}
 use Rattle.script.specs.Result.{unreadable, result_as, kind_of, result_of}

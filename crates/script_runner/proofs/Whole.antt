@@ -12,7 +12,7 @@ use lib.ListN.{length, drop}
 use lib.Seq.{drop-drop}
 use Rattle.lists.specs.Options.{case_option}
 use Rattle.lists.proofs.Choices.{not_both, by_bool}
-use Rattle.network.specs.declared.Network.{Network}
+use Rattle.structs.specs.declared.Network.{Network}
 use Rattle.network.specs.Lens.{new_network}
 use Rattle.network.specs.Events.{valid_network_record}
 use Rattle.network.proofs.Reached.{new_valid}

@@ -3,7 +3,7 @@ use Rattle.std.specs.Prelude.{ℕ, cond, List, ltb, length, Option, None, Some, 
 use Rattle.lists.specs.Options.{case_option}
 use Rattle.answers.specs.declared.Refusal.{Refusal}
 use Rattle.answers.specs.Numbers.{refusal_number}
-use Rattle.network.specs.declared.Network.{Network}
+use Rattle.structs.specs.declared.Network.{Network}
 use Rattle.network.specs.Events.{event_of}
 use Rattle.script.specs.EventLine.{event_in}
 use Rattle.script.specs.Put.{front}

@@ -11,7 +11,7 @@ ghost use Rattle.script.specs.Script.{printed};
 ghost use Rattle.script_runner.specs.Played.{text_in, after_line, played_as, measured, rehearsed_from, written_into, rehearsed_into};
 
 use answers::Refusal;
-use network::Network;
+use structs::Network;
 
 // The record after the lines of events, and the length of what they print. The length stays a number: a slice would keep the buffer lent.
 #[derive(Clone, Copy)]

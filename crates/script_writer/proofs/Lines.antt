@@ -4,7 +4,7 @@ use Rattle.std.proofs.Common.{◌≡◌, refl, sym, ◌∙◌, ℕ, ◌+◌, Lis
 use Rattle.std.specs.Bool.{then_some}
 use Rattle.lists.specs.Table.{accepts}
 use Rattle.network.specs.Events as floor
-use Rattle.events.specs.declared.Kind.{Kind}
+use Rattle.structs.specs.declared.Kind.{Kind}
 use Rattle.events.specs.Event.{is_who}
 use Rattle.script.specs.Text.{octets_of}
 use Rattle.script.specs.EventLine.{name_of}

@@ -9,8 +9,8 @@ use lib.ListN.{length, length-append}
 use Rattle.lists.proofs.Choices.{by_bool}
 use Rattle.lists.specs.Table.{accepts}
 use Rattle.network.specs.Events as floor
-use Rattle.events.specs.declared.Kind.{Kind}
-use Rattle.events.specs.declared.Kind.TheVariants.{Join, Leave, Deliver, Repeat, Lose, Tick, Who}
+use Rattle.structs.specs.declared.Kind.{Kind}
+use Rattle.structs.specs.declared.Kind.TheVariants.{Join, Leave, Deliver, Repeat, Lose, Tick, Who}
 use Rattle.events.specs.Event.{is_who}
 use Rattle.script.specs.Fields.{digit, decimal}
 use Rattle.script.specs.EventLine.{name_of}

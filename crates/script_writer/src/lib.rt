@@ -9,8 +9,8 @@ ghost use Rattle.floor_link.specs.Answered.{line_with, line_from};
 ghost use Rattle.script_writer.specs.Held.{held_text};
 
 use answers::Refusal;
-use events::Kind;
 use floor_link::Line;
+use structs::Kind;
 
 // What a refused event tells but for its answer: "every other number of the answer 0".
 const NOTHING: Line = Line {

@@ -11,15 +11,16 @@ use borrow.Author.Tests.{eq-eqb, ne_eqb}
 use lib.Dec.{eqb}
 use lib.ListN.{length, take, get_or, length-map, length-take}
 use lib.Seq.{take-suc}
-use Rattle.elements.specs.declared.InFlight.{InFlight}
-use Rattle.elements.specs.declared.Move.{Move}
+use Rattle.structs.specs.declared.InFlight.{InFlight}
+use Rattle.structs.specs.declared.Move.{Move}
 use Rattle.machine.specs.Packets.{Packet, Outgoing, carried}
 use Rattle.machine.specs.Moves.{notice_of, notices_of}
 use Rattle.machine.specs.AccessPoint.{add_notifies}
 use Rattle.record.specs.Lens.{named}
-use Rattle.in_flight.specs.Post.{get_outbox, put_outbox, outbox_of}
+use Rattle.in_flight.specs.Post.{outbox_of}
+use Rattle.structs.specs.Lists.{get_outbox, put_outbox}
 use Rattle.sending.proofs.Outboxes.{outbox_count, outbox_more}
-use Rattle.in_flight.specs.declared.Outbox.{Outbox}
+use Rattle.structs.specs.declared.Outbox.{Outbox}
 
 -- the packets of an announcement
 

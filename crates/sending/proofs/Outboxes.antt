@@ -1,13 +1,14 @@
 -- Packets put into an outbox, one after the other.
 -- Assumes nothing.
 use Rattle.std.proofs.Common.{◌≡◌, refl, List, [], ◌∷◌, ◌++◌, length, ap, ◌∙◌}
-use Rattle.elements.specs.declared.InFlight.{InFlight}
-use Rattle.in_flight.specs.declared.Outbox.{Outbox}
+use Rattle.structs.specs.declared.InFlight.{InFlight}
+use Rattle.structs.specs.declared.Outbox.{Outbox}
 use Prim.Native.Nat.{ℕ}
 use Rattle.slots.specs.Lists.{over}
 use Rattle.slots.proofs.Laws.{put_more}
-use Rattle.in_flight.specs.Post.{no_outbox, get_outbox, put_outbox, outbox_of}
-use Rattle.elements.specs.Blanks.{no_in_flight}
+use Rattle.in_flight.specs.Post.{outbox_of}
+use Rattle.structs.specs.Lists.{no_outbox, get_outbox, put_outbox}
+use Rattle.structs.specs.Blanks.{no_in_flight}
 
 -- how many there are
 pub outbox_count : (o : Outbox) (xs : List InFlight) → o ≡ outbox_of xs → o.count ≡ length xs

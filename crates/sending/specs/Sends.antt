@@ -2,8 +2,8 @@
 use Rattle.std.specs.Prelude.{ℕ, ◌≤◌, Bool, leb, length}
 use Rattle.packet.specs.Fields.{Fields}
 use Rattle.writer.specs.Write.{octets_of}
-use Rattle.elements.specs.declared.InFlight.{InFlight}
-use Rattle.elements.specs.declared.Move.{Move}
+use Rattle.structs.specs.declared.InFlight.{InFlight}
+use Rattle.structs.specs.declared.Move.{Move}
 use Rattle.machine.specs.Stations.{Station}
 use Rattle.machine.specs.Associations.{padded}
 use Rattle.machine.specs.Packets.{Packet, add_notify, move_notify, Outgoing}

@@ -8,17 +8,16 @@ ghost use Rattle.machine.specs.Moves.{notices_of};
 ghost use Rattle.machine.specs.Packets.{carried};
 ghost use Rattle.machine.specs.AccessPoint.{add_notifies, answer_to};
 ghost use Rattle.moves.specs.Asked.{asked};
-ghost use Rattle.record.specs.Lens.{get_moves, named};
+ghost use Rattle.record.specs.Lens.{named};
+ghost use Rattle.structs.specs.Lists.{get_moves};
 ghost use Rattle.receiving.specs.Receive.{IsShort, message_in};
 ghost use Rattle.in_flight.specs.Post.{outbox_of};
 ghost use Rattle.sending.specs.Sends.{IsWithin, sent_as, add_packet, notify_to, sequence_within};
 
-use elements::InFlight;
-use in_flight::Outbox;
 use packet::{Command, Packet};
 use reader::Received;
 use receiving::Reply;
-use record::Moves;
+use structs::{InFlight, Moves, Outbox};
 
 // One packet sent.
 #[tactic(auto, using(crate::proofs::Outboxes::outbox_one))]

@@ -1,5 +1,5 @@
 -- One access point, its record lent: what an exported function leaves there, with its reply.
-use Rattle.record.specs.declared.LoneAccessPoint.{LoneAccessPoint}
+use Rattle.structs.specs.declared.LoneAccessPoint.{LoneAccessPoint}
 use Rattle.alone.specs.declared.Reply.{Reply}
 use Rattle.alone.specs.declared.Outcome.{Outcome}
 

@@ -9,7 +9,7 @@ ghost use Rattle.alone.specs.Told.{old_named};
 ghost use Rattle.lent.specs.Told.{lent_of, set_up_over, asked_of};
 
 use lent::{Asked, Line};
-use network::Network;
+use structs::Network;
 
 // A floor of ap_count APs, all empty, with T and R, in the place of the record: 14.
 #[unsafe(no_mangle)]

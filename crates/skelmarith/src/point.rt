@@ -6,7 +6,7 @@ ghost use Rattle.alone.specs.Told.{told_of, old_named, set_up_alone, join_alone,
 ghost use Rattle.skelmarith.specs.Point.{alone_of};
 
 use alone::Reply;
-use record::LoneAccessPoint;
+use structs::LoneAccessPoint;
 
 // AP `number` of ap_count, empty, with T and R, in the place of the record: 14.
 #[unsafe(no_mangle)]

@@ -6,7 +6,7 @@ use Rattle.excerpt.specs.Excerpts.{put_back}
 use Rattle.actions.specs.Done.{joining_of}
 use Rattle.actions.proofs.Laws.{join_off, join_group, join_sequence, join_context, join_done_lem}
 use Rattle.actions.proofs.join_excerpt.Goals as goal
-use Rattle.in_flight.specs.declared.Outbox.{Outbox}
+use Rattle.structs.specs.declared.Outbox.{Outbox}
 
 pub returns-then-setup-at-clause-result_value : goal.returns-then-setup-at-clause-result_value
 returns-then-setup-at-clause-result_value c =

@@ -2,7 +2,7 @@
 -- Assumes nothing.
 use Rattle.std.proofs.Common.{◌≡◌, true, sym, ap, ◌∙◌, arith}
 use borrow.Author.Tests.{eqb-true}
-use Rattle.elements.specs.declared.InFlight.{InFlight}
+use Rattle.structs.specs.declared.InFlight.{InFlight}
 use Rattle.reader.specs.Read.{Reading, reading_of, read_as, read_of}
 use Rattle.reader.proofs.Steps.{read_ok, within, start_limit, part_is, part_length, accepted_limits}
 use Rattle.machine.specs.Packets.{readable, octets_in}

@@ -3,14 +3,14 @@
 use native.Mathlib.Omega.{arith}
 use mathlib.Core.Path.{ap, ◌∙◌}
 use Rattle.lists.specs.Places.{every}
-use Rattle.record.specs.Lens.{get_moves}
+use Rattle.structs.specs.Lists.{get_moves}
 use Rattle.access_point.specs.declared.Ticking.{Ticking}
 use Rattle.access_point.proofs.Ticks.{due_few}
 use Rattle.access_point.specs.Tick.{tick_done}
 use Rattle.sending.specs.Sends.{sequence_within}
 use Rattle.actions.proofs.Laws.{tick_off, due_within, tick_done_lem}
 use Rattle.actions.proofs.tick.Goals as goal
-use Rattle.in_flight.specs.declared.Outbox.{Outbox}
+use Rattle.structs.specs.declared.Outbox.{Outbox}
 
 pub returns-then-ap_count-at : goal.returns-then-ap_count-at
 returns-then-ap_count-at c =

@@ -4,11 +4,11 @@ use mathlib.Core.Path.{◌≡◌, sym, ap, ◌∙◌}
 use mathlib.Core.Bool.{true}
 use mathlib.Core.List.{List}
 use Rattle.std.specs.Prelude.{Option, Ok, Err}
-use Rattle.record.specs.declared.AccessPoint.{AccessPoint}
+use Rattle.structs.specs.declared.AccessPoint.{AccessPoint}
 use Rattle.access_point.specs.Outside.{with_record}
 use Prim.Native.Nat.{ℕ}
 use Rattle.machine.specs.Stations.{Station}
-use Rattle.record.specs.declared.LoneAccessPoint.{LoneAccessPoint}
+use Rattle.structs.specs.declared.LoneAccessPoint.{LoneAccessPoint}
 use Rattle.record.specs.Valid.{valid_lone_record}
 use Rattle.access_point.proofs.Outsides.{usable}
 use Rattle.actions.specs.Done.{Done, joining_of, join_of}

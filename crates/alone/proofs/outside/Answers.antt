@@ -6,8 +6,8 @@ use denote.Struct.Declared.{row}
 use mir.Val.{Val}
 use Rattle.answers.specs.Numbers.{refusal_number}
 use Rattle.record.proofs.Sizes.{fits}
-use Rattle.record.specs.contracts.AccessPoint as A
-use Rattle.record.specs.declared.LoneAccessPoint.{LoneAccessPoint}
+use Rattle.structs.specs.contracts.AccessPoint as A
+use Rattle.structs.specs.declared.LoneAccessPoint.{LoneAccessPoint}
 use Rattle.access_point.specs.Outside.{Taken, refused_with, outside_done}
 use Rattle.access_point.proofs.Outsides.{usable}
 use Rattle.alone.specs.Told.{outside_alone}

@@ -2,7 +2,7 @@
 -- Assumes nothing.
 use mathlib.Core.Path.{◌∙◌}
 use Rattle.lists.proofs.Search.{index_position}
-use Rattle.record.specs.Lens.{get_associations}
+use Rattle.structs.specs.Lists.{get_associations}
 use Rattle.associations.specs.Rows.{is_of}
 use Rattle.associations.proofs.find.Goals as goal
 

@@ -6,7 +6,7 @@ use mathlib.Core.Bool.{Bool, true}
 use mathlib.Core.List.{List}
 use lib.ListN.{length, take}
 use Rattle.std.specs.List.{list_all}
-use Rattle.elements.specs.declared.Association.{Association}
+use Rattle.structs.specs.declared.Association.{Association}
 use Rattle.machine.specs.Valid.{valid_association}
 use Rattle.associations.proofs.Apart.{Apart, Noted}
 use Rattle.associations.proofs.valid.Given as goal

@@ -2,7 +2,7 @@
 -- Assumes nothing.
 use Rattle.std.proofs.Common.{◌≡◌, ℕ, ◌+◌, ◌*◌, Bool, true, false, cond, ltb, length, List, ap, sym, ◌∙◌, arith}
 use mir.Val.{bool_byte}
-use Rattle.elements.specs.declared.Association.{Association}
+use Rattle.structs.specs.declared.Association.{Association}
 use Rattle.machine.specs.Events.{holds}
 use Rattle.record.specs.Lens.{get_point}
 use Rattle.events.proofs.Held.{holds_by}

@@ -3,9 +3,9 @@
 use mathlib.Core.Path.{◌≡◌, ap, ◌∙◌}
 use native.Mathlib.Omega.{arith}
 use lib.ListN.{length}
-use Rattle.network.specs.declared.InFlights.{InFlights}
-use Rattle.network.specs.Lens.{get_in_flight, put_in_flight}
-use Rattle.in_flight.specs.Post.{get_outbox, posted}
+use Rattle.structs.specs.declared.InFlights.{InFlights}
+use Rattle.structs.specs.Lists.{get_in_flight, put_in_flight, get_outbox}
+use Rattle.in_flight.specs.Post.{posted}
 use Rattle.events.proofs.Taken.{left, left_few, left_slots, left_posted}
 use Rattle.events.proofs.settle.Goals as goal
 use Rattle.events.proofs.settle.Goals.{then-taken, else-taken}

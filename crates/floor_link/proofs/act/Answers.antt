@@ -3,7 +3,7 @@
 use mathlib.Core.Path.{refl, sym, ap, ◌∙◌}
 use Rattle.std.specs.Prelude.{Result, Ok, Err}
 use Rattle.answers.specs.declared.Refusal.{Refusal}
-use Rattle.network.specs.declared.Network.{Network}
+use Rattle.structs.specs.declared.Network.{Network}
 use Rattle.floor_link.specs.declared.Line.{Line}
 use Rattle.floor_link.specs.Answered.{Unchanged}
 use Rattle.machine.specs.Events.{Event, step}

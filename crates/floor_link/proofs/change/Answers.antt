@@ -3,8 +3,8 @@
 use Rattle.std.proofs.Common.{ℕ, ◌≤◌, ◌<◌, ◌≡◌, ◌∙◌, refl, sym, ap, subst, true, false, List, arith}
 use lib.ListN.{get_or, set}
 use Rattle.machine.specs.Events.{step}
-use Rattle.network.specs.declared.InFlights.{InFlights}
-use Rattle.network.specs.declared.Network.{Network}
+use Rattle.structs.specs.declared.InFlights.{InFlights}
+use Rattle.structs.specs.declared.Network.{Network}
 use Rattle.network.specs.Lens.{get}
 use Rattle.network.specs.Events.{valid_network_record, reply_of, refused}
 use Rattle.network.proofs.LensLaws.{NetworkFits}
@@ -16,7 +16,7 @@ use Rattle.answers.specs.declared.Refusal.{Refusal}
 use Rattle.answers.specs.Numbers.{refusal_number}
 use Rattle.answers.proofs.Numbers.{refusal_above}
 use Rattle.actions.specs.Done.{Done, done_of, unchanged_by}
-use Rattle.events.specs.declared.Event.{Event}
+use Rattle.structs.specs.declared.Event.{Event}
 use Rattle.events.specs.Event.{event_from, is_who}
 use Rattle.events.specs.Apart.{packet_for, point_for, taken_for, action_for}
 use Rattle.events.proofs.Within.{past, setup_within, usable_at, moves_at, few_packets}

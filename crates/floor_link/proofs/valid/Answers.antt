@@ -10,7 +10,7 @@ use Rattle.lists.proofs.Choices.{and_false}
 use Rattle.machine.specs.Valid.{valid_setup}
 use Rattle.machine.proofs.Valid.{setup_in}
 use Rattle.record.specs.Valid.{valid_record}
-use Rattle.network.specs.declared.Network.{Network}
+use Rattle.structs.specs.declared.Network.{Network}
 use Rattle.events.proofs.Within.{in_parts}
 use Rattle.floor_link.proofs.valid.Goals as goal
 

@@ -5,10 +5,10 @@ use mathlib.Core.List.{List}
 use native.Mathlib.Omega.{arith}
 use lib.ListN.{take}
 use lib.Seq.{take_all}
-use Rattle.elements.specs.declared.InFlight.{InFlight}
-use Rattle.network.specs.Lens.{get_in_flight, put_in_flight}
-use Rattle.network.proofs.LensLaws.{in_flight_kept}
-use Rattle.in_flight.specs.Post.{get_outbox, posted}
+use Rattle.structs.specs.declared.InFlight.{InFlight}
+use Rattle.structs.specs.Lists.{get_in_flight, put_in_flight, get_outbox}
+use Rattle.structs.proofs.Lists.{in_flight_kept}
+use Rattle.in_flight.specs.Post.{posted}
 use Rattle.in_flight.proofs.Posted.{put_in, put_out}
 use Rattle.in_flight.proofs.post.Goals as goal
 use Rattle.in_flight.proofs.post.Goals.{then-t-lt64, else-t-lt64}

@@ -2,7 +2,7 @@
 -- Assumes nothing.
 use mathlib.Core.Path.{◌≡◌}
 use lib.ListN.{take}
-use Rattle.network.specs.Lens.{get_in_flight, put_in_flight}
+use Rattle.structs.specs.Lists.{get_in_flight, put_in_flight}
 use Rattle.in_flight.specs.Post.{posted}
 use Rattle.in_flight.proofs.post.Given as goal
 

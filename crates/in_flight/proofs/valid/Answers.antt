@@ -4,7 +4,7 @@ use mathlib.Core.Path.{sym, ◌∙◌}
 use borrow.Author.Tests.{le-leb}
 use Rattle.lists.proofs.Every.{every_list}
 use Rattle.machine.specs.Valid.{valid_in_flight}
-use Rattle.network.specs.Lens.{get_in_flight}
+use Rattle.structs.specs.Lists.{get_in_flight}
 use Rattle.in_flight.proofs.valid.Goals as goal
 
 pub returns-then-t-le64 : goal.returns-then-t-le64

@@ -4,13 +4,13 @@ use Rattle.std.proofs.Common.{◌≡◌, ◌<◌, ℕ, List, Bool, Err, sym, ref
 use Rattle.lists.specs.Table.{first_of}
 use Rattle.machine.specs.AccessPoint as machine
 use Rattle.machine.specs.AccessPoint.{origin_of, join_tests, join_from}
-use Rattle.record.specs.declared.AccessPoint.{AccessPoint}
+use Rattle.structs.specs.declared.AccessPoint.{AccessPoint}
 use Rattle.record.specs.Lens.{get_point, put_point}
 use Rattle.excerpt.specs.declared.Excerpt.{Excerpt}
 use Rattle.excerpt.specs.Excerpts.{Seen}
 use Rattle.joining.specs.declared.Notice.{Notice}
 use Rattle.joining.specs.declared.Notice.TheVariants.{Silent}
-use Rattle.joining.specs.declared.Origin.{Origin}
+use Rattle.structs.specs.declared.Origin.{Origin}
 use Rattle.answers.proofs.Numbers.{refusal_above}
 use Rattle.std.proofs.lemmas.Result.{err_from_is_err_and}
 use Rattle.joining.specs.Join.{joined_of, notice_from, origin_from, moving_from, tests_at, join_done}

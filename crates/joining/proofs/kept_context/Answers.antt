@@ -1,7 +1,7 @@
 -- `joining::kept_context` meets its contract: the association there numbered anew, or a new one, is the machine's.
 -- Assumes nothing.
 use Rattle.std.proofs.Common.{◌∙◌, arith}
-use Rattle.record.specs.Lens.{get_associations}
+use Rattle.structs.specs.Lists.{get_associations}
 use Rattle.excerpt.proofs.Laws.{at_is, count_is, row_is}
 use Rattle.joining.proofs.Laws.{kept_row, new_row}
 use Rattle.joining.proofs.kept_context.Goals as goal

@@ -5,7 +5,7 @@ use native.Mathlib.Omega.{arith}
 use lib.ListN.{take}
 use lib.Seq.{take_all}
 use Rattle.slots.specs.Lists.{over}
-use Rattle.record.specs.Lens.{no_moves}
+use Rattle.structs.specs.Lists.{no_moves}
 use Rattle.moves.specs.Ticks.{is_due, after}
 use Rattle.moves.proofs.Ticking.{picked_due, due_stays, room, put_in, put_out}
 use Rattle.moves.proofs.due_of.Goals.{then-sent_again, else-sent_again}

@@ -2,9 +2,8 @@
 -- Assumes nothing.
 use mathlib.Core.Path.{◌≡◌}
 use lib.ListN.{take}
-use Rattle.record.specs.Lens.{put_moves}
+use Rattle.structs.specs.Lists.{put_moves, no_moves}
 use Rattle.moves.specs.Ticks.{is_due, after}
-use Rattle.record.specs.Lens.{no_moves}
 use Rattle.moves.proofs.Ticking.{picked}
 use Rattle.moves.proofs.due_of.Given as goal
 

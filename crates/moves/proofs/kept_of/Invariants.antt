@@ -2,7 +2,7 @@
 -- Assumes nothing.
 use mathlib.Core.Path.{◌≡◌}
 use lib.ListN.{take}
-use Rattle.record.specs.Lens.{put_moves}
+use Rattle.structs.specs.Lists.{put_moves}
 use Rattle.moves.specs.Ticks.{stays, after}
 use Rattle.moves.proofs.Ticking.{picked}
 use Rattle.moves.proofs.kept_of.Given as goal

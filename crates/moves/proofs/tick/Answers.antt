@@ -5,9 +5,10 @@ use mathlib.Core.Path.{◌≡◌, ap, ◌∙◌}
 use mathlib.Core.List.{map}
 use native.Mathlib.Omega.{arith}
 use lib.ListN.{length, length-map}
-use Rattle.record.specs.declared.Moves.{Moves}
+use Rattle.structs.specs.declared.Moves.{Moves}
 use Rattle.machine.specs.Moves.{kept, lapsed}
-use Rattle.record.specs.Lens.{get_moves, put_moves, named, bare}
+use Rattle.record.specs.Lens.{named, bare}
+use Rattle.structs.specs.Lists.{get_moves, put_moves}
 use Rattle.moves.proofs.Laws.{kept_lapsed}
 use Rattle.moves.proofs.tick.Goals as goal
 

@@ -4,8 +4,9 @@ use mathlib.Core.Path.{sym, ◌∙◌}
 use borrow.Author.Tests.{le-leb}
 use Rattle.lists.proofs.Every.{every_map, every_list}
 use Rattle.machine.specs.Valid.{valid_move}
-use Rattle.record.specs.Lens.{named, get_moves}
-use Rattle.elements.specs.declared.Move.{Move}
+use Rattle.record.specs.Lens.{named}
+use Rattle.structs.specs.Lists.{get_moves}
+use Rattle.structs.specs.declared.Move.{Move}
 use Rattle.moves.proofs.valid.Goals as goal
 
 pub returns-then-t-le8 : goal.returns-then-t-le8

@@ -4,8 +4,8 @@ use Rattle.std.proofs.Common.{rules, tests, ◌∙◌, List, ◌∷◌, [], eqb}
 use Rattle.std.specs.Cmp.Lexicographic.{pointwise}
 use Rattle.std.proofs.lemmas.Iterator.{YieldsList-from_slice}
 use Rattle.std.proofs.lemmas.Iterator.Search.{find_from_yields_List}
-use Rattle.events.specs.declared.Kind.{Kind}
-use Rattle.events.specs.declared.Kind.TheVariants.{Join, Leave, Deliver, Repeat, Lose, Tick, Who}
+use Rattle.structs.specs.declared.Kind.{Kind}
+use Rattle.structs.specs.declared.Kind.TheVariants.{Join, Leave, Deliver, Repeat, Lose, Tick, Who}
 use Rattle.script.specs.EventLine.{name_of, kind_in}
 use Rattle.script_fields.proofs.Texts.{named_find}
 use Rattle.script_fields.proofs.read_kind.Goals as goal

@@ -6,7 +6,7 @@ use mathlib.Core.List.{List, ◌++◌}
 use Rattle.std.specs.Prelude.{Some, Ok, Err}
 use lib.ListN.{length, drop}
 use Rattle.lists.proofs.Fronts.{rest_from}
-use Rattle.network.specs.declared.Network.{Network}
+use Rattle.structs.specs.declared.Network.{Network}
 use Rattle.network.specs.Lens.{new_network}
 use Rattle.floor_link.specs.Answered.{set_up_of}
 use Rattle.script.specs.Text.{lines}

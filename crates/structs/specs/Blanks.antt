@@ -1,8 +1,8 @@
 -- The blank elements: what a slot holds that no element uses.
 use Rattle.std.specs.Prelude.{replicate}
-use Rattle.elements.specs.declared.Association.{Association}
-use Rattle.elements.specs.declared.Move.{Move}
-use Rattle.elements.specs.declared.InFlight.{InFlight}
+use Rattle.structs.specs.declared.Association.{Association}
+use Rattle.structs.specs.declared.Move.{Move}
+use Rattle.structs.specs.declared.InFlight.{InFlight}
 
 unfoldable pub no_association : Association
 no_association = record { station = replicate 6 0; sequence = 0; context_len = 0; context = replicate 64 0 }
