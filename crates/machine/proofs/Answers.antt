@@ -16,7 +16,7 @@ use Rattle.structs.specs.declared.Association.{Association}
 use Rattle.structs.specs.declared.InFlight.{InFlight}
 use Rattle.machine.specs.Stations.{Station, same, is_group}
 use Rattle.machine.specs.Associations.{padded, given, association, sequence_of, held_context, context_octets, associate, dissociate, dissociate_older, dissociate_exactly, fill}
-use Rattle.machine.specs.Packets.{Outgoing, add_notify, fields_as, written, carried, message_of, packet_of, readable, packet_in, octets_in}
+use Rattle.machine.specs.Packets.{Outgoing, add_notify, stale_move, fields_as, written, carried, message_of, packet_of, readable, packet_in, octets_in}
 use Rattle.machine.specs.Moves.{Open, nothing, counted, counts_after, new_move, opening, notice_of, notices_of, agrees, earliest, close, answering, timed, fate, kept_from, kept, resent_by, resends, lapsed_by, lapsed, ticking}
 use Rattle.machine.specs.AccessPoint.{new_point, with_associations, with_moves, use_identifier, quietly, origin_of, joined, add_notifies, join_from, leave_by, tick_by, answer_to, answering_with, receive_add, receive_notify, receive_response, receive_by, receive, needs_move}
 use Rattle.machine.specs.Network.{setup_tests, new_network, access_point_at, set_point, set_in_flight, send, send_all}
@@ -160,6 +160,9 @@ pub record Examples : Type 0 where
   agreeing_closes :
       map (λ (m : Open). m.move.station) (access_point_at (run (begin 2 1 0) (join 1 s1 11 (Some 0) [] ∷ join 1 s2 11 (Some 0) [] ∷ deliver 1 ∷ deliver 1 ∷ [])).network 1).moves
       ≡ s1 ∷ []
+  -- nor does an answer from another AP than the old one
+  other_sender :
+      map (λ from. agrees from (record { identifier = 0; station = s1; sequence = 11; message = stale_move }) (open_move 11 1 1 0).move) (0 ∷ 1 ∷ []) ≡ false ∷ true ∷ []
   -- what repeat hands over stays in flight, and its answer is the receiver's
   repeats :
       printed (begin 2 5 1) (join 0 s1 5 (Some 1) [] ∷ repeat 0 ∷ repeat 0 ∷ deliver 2 ∷ deliver 1 ∷ lose 0 ∷ lose 0 ∷ [])
@@ -282,6 +285,7 @@ examples =
       gives_up = refl;
       earliest_closes = refl;
       agreeing_closes = refl;
+      other_sender = refl;
       repeats = refl;
       full_air = refl;
       full_air_sent = refl;

@@ -1,6 +1,7 @@
 -- Document 01, "Refusals by origin", whoever sends a packet: refusals 1 to 9 in its order. The first that applies decides.
-use Rattle.std.specs.Prelude.{ℕ, Bool, ◌+◌, List, [], ◌∷◌, ◌++◌, not, cond, ◌&&◌, ◌||◌, length, ltb, eqb}
-use Rattle.lists.specs.Table.{Test}
+use Rattle.std.specs.Prelude.{◌≡◌, refl, ℕ, Bool, map, replicate, ◌+◌, List, [], ◌∷◌, ◌++◌, not, cond, ◌&&◌, ◌||◌, length, ltb, eqb}
+use Rattle.lists.specs.Table.{Test, first_of}
+use Rattle.packet.specs.Octets.{be16}
 use Rattle.packet.specs.Layout.{version_in, command_in, length_in, data_in, is_add, address_length_in, status_in, sequence_in, context_length_in}
 
 -- the header of the packet s
@@ -44,3 +45,29 @@ data_tests c t n d =
 -- refusals 1 to 9 of the packet s
 unfoldable pub reader_tests : List ℕ → List Test
 reader_tests s = head_tests s ++ data_tests (command_in s) (status_in (command_in s) (data_in s)) (length_in s) (data_in s)
+
+-- examples: one packet for each refusal, one step past what is read: five octets, Version 01, Command 03, Length 16 of fifteen octets, an
+-- ADD-notify of Length 17, Address Length 05, Sequence 4096, Status 02, and Length 19 without context
+pub refused_in_order :
+    map (λ s. first_of (reader_tests s))
+    ((0 ∷ 0 ∷ 0 ∷ 0 ∷ 0 ∷ [])
+    ∷ (1 ∷ 0 ∷ 0 ∷ 0 ∷ 0 ∷ 16 ∷ [])
+    ∷ (0 ∷ 3 ∷ 0 ∷ 0 ∷ 0 ∷ 16 ∷ [])
+    ∷ (0 ∷ 0 ∷ 0 ∷ 0 ∷ 0 ∷ 16 ∷ 6 ∷ 0 ∷ 2 ∷ 0 ∷ 0 ∷ 0 ∷ 0 ∷ 1 ∷ 0 ∷ [])
+    ∷ (0 ∷ 0 ∷ 0 ∷ 0 ∷ 0 ∷ 17 ∷ 6 ∷ 0 ∷ 2 ∷ 0 ∷ 0 ∷ 0 ∷ 0 ∷ 1 ∷ 0 ∷ 10 ∷ 0 ∷ [])
+    ∷ (0 ∷ 0 ∷ 0 ∷ 0 ∷ 0 ∷ 16 ∷ 5 ∷ 0 ∷ 2 ∷ 0 ∷ 0 ∷ 0 ∷ 0 ∷ 1 ∷ 0 ∷ 10 ∷ [])
+    ∷ (0 ∷ 0 ∷ 0 ∷ 0 ∷ 0 ∷ 16 ∷ 6 ∷ 0 ∷ 2 ∷ 0 ∷ 0 ∷ 0 ∷ 0 ∷ 1 ∷ 16 ∷ 0 ∷ [])
+    ∷ (0 ∷ 2 ∷ 0 ∷ 0 ∷ 0 ∷ 18 ∷ 6 ∷ 2 ∷ 2 ∷ 0 ∷ 0 ∷ 0 ∷ 0 ∷ 1 ∷ 0 ∷ 10 ∷ 0 ∷ 0 ∷ [])
+    ∷ (0 ∷ 1 ∷ 0 ∷ 0 ∷ 0 ∷ 19 ∷ 6 ∷ 0 ∷ 2 ∷ 0 ∷ 0 ∷ 0 ∷ 0 ∷ 1 ∷ 0 ∷ 10 ∷ 0 ∷ 0 ∷ 0 ∷ [])
+    ∷ [])
+    ≡ 1 ∷ 2 ∷ 3 ∷ 4 ∷ 5 ∷ 6 ∷ 7 ∷ 8 ∷ 9 ∷ []
+unfolding reader_tests head_tests data_tests be16
+refused_in_order = refl
+
+-- a context of 64 octets is read, and one of 65 is refused
+abbrev pub with_context : ℕ → List ℕ
+with_context c = (0 ∷ 1 ∷ 0 ∷ 0 ∷ 0 ∷ (18 + c) ∷ 6 ∷ 0 ∷ 2 ∷ 0 ∷ 0 ∷ 0 ∷ 0 ∷ 1 ∷ 0 ∷ 10 ∷ 0 ∷ c ∷ []) ++ replicate c 0
+
+pub contexts_of_64_and_65 : map (λ c. first_of (reader_tests (with_context c))) (64 ∷ 65 ∷ []) ≡ 0 ∷ 9 ∷ []
+unfolding reader_tests head_tests data_tests be16
+contexts_of_64_and_65 = refl
