@@ -1,11 +1,13 @@
 -- Document 01, "Floor rehearsal": the set-up that the first three lines of a script say.
-use Rattle.std.specs.Prelude.{ℕ, cond, ◌&&◌, List, [], eqb, ltb, leb, length, get_or, drop}
+use Rattle.std.specs.Prelude.{◌≡◌, refl, ℕ, cond, ◌&&◌, List, [], eqb, ltb, leb, length, get_or, drop}
 use Rattle.std.specs.Prelude.{Option, None, Some}
 use Rattle.lists.specs.Options.{case_option}
+use Rattle.lists.specs.Places.{every}
 use Rattle.machine.specs.Stations.{same}
+use Rattle.machine.specs.Network.{setup_tests}
 use Rattle.machine.specs.Valid.{valid_setup}
-use Rattle.script.specs.Text.{octets_of, fields}
-use Rattle.script.specs.Fields.{number_in}
+use Rattle.script.specs.Text.{octets_of, split, on_first, fields}
+use Rattle.script.specs.Fields.{value_from, is_plain, is_number, number_in}
 
 -- "A line of names, then values"
 
@@ -34,6 +36,15 @@ value_fields fs =
 -- "lines of at most 255 octets"
 unfoldable pub values_in : List ℕ → Option Values
 values_in l = cond (ltb 255 (length l)) None (value_fields (fields l))
+
+-- "2 2 1" in document 01's order, and values that are out of the limits
+pub three_values : values_in (octets_of "2 3 1") ≡ Some (record { aps = 2; timeout = 3; resends = 1 })
+unfolding values_in value_fields limited valid_setup setup_tests number_in is_number is_plain value_from every split on_first
+three_values = refl
+
+pub nine_aps : values_in (octets_of "9 3 1") ≡ None
+unfolding values_in value_fields limited valid_setup setup_tests number_in is_number is_plain value_from every split on_first
+nine_aps = refl
 
 -- "Bad setup or names lines": none, as where one of the three is missing
 unfoldable pub set_up_in : List (List ℕ) → Option Values
