@@ -14,18 +14,33 @@ ghost use Rattle.script.specs.Script.{output_of};
 
 use std::env::{Env, FillError};
 use std::fs;
-use std::io::{self, Read};
+use std::io::{Read, Result};
 use std::rt::Files;
 
-// Writes a line that begins with a name. What cannot be written is left out.
-fn say(rt: &impl Print, name: &[u8], what: &str) {
-    let _ = rt.write_all(name);
-    let _ = println!(rt; "{what}");
+// Puts a text into `line` at `at`: the place after it.
+fn put(line: &mut [u8], at: usize, text: &[u8]) -> usize
+    requires { at + length text.now ≤ length line.old }
+    ensures { result ≡ at + length text.now }
+{
+    octets::copy(text, &mut line[at..]);
+    at + text.len()
+}
+
+// Writes a line of three parts. A line that cannot be written is left out.
+fn say(rt: &impl Print, first: &[u8], second: &[u8], third: &str)
+    requires { (length first.now ≤ 255) × (length second.now ≤ 64) × (length third.now ≤ 64) }
+{
+    let mut line = [0u8; 512];
+    let a = put(&mut line, 0, first);
+    let b = put(&mut line, a, second);
+    let c = put(&mut line, b, third.as_bytes());
+    let n = put(&mut line, c, b"\n");
+    let _ = rt.write_all(&line[..n]);
 }
 
 // Reads a file to its end, or till the buffer is full. Each turn reads an octet at least. Stays a loop: how far the next read goes is what this
 // one gives.
-fn read_all(from: &mut impl Read, into: &mut [u8]) -> io::Result<usize>
+fn read_all(from: &mut impl Read, into: &mut [u8]) -> Result<usize>
     ensures { IfOk result (λ n. n ≤ length into.old) }
 {
     let mut len = 0;
@@ -53,31 +68,23 @@ fn name_with(word: &[u8], ending: &[u8], path: &mut [u8]) -> usize
     requires { length word.now + length ending.now ≤ length path.old }
     ensures { result ≤ length path.old }
 {
-    let at = word.len();
-    octets::copy(word, path);
-    octets::copy(ending, &mut path[at..]);
-    at + ending.len()
-}
-
-// Says what is wrong with the file of a name and an ending.
-fn say_of_file(rt: &impl Print, name: &[u8], ending: &str, what: &str) {
-    let _ = rt.write_all(name);
-    let _ = println!(rt; "{ending}{what}");
+    let at = put(path, 0, word);
+    put(path, at, ending)
 }
 
 // Reads the file of a name and an ending. None where something is wrong with it, which is written.
-fn load(rt: &(impl Files + Print), name: &[u8], ending: &str, into: &mut [u8]) -> Option<usize>
+fn load(rt: &(impl Files + Print), name: &[u8], ending: &[u8], into: &mut [u8]) -> Option<usize>
     requires { (length name.now ≤ 255) × (length ending.now ≤ 64) }
     ensures { IfSome result (λ n. n ≤ length into.old) }
 {
     let mut path = [0u8; 512];
-    let n = name_with(name, ending.as_bytes(), &mut path);
+    let n = name_with(name, ending, &mut path);
     let Some(len) = read_file(rt, &path[..n], into) else {
-        say_of_file(rt, name, ending, " cannot be read");
+        say(rt, name, ending, " cannot be read");
         return None;
     };
     if len == into.len() {
-        say_of_file(rt, name, ending, " is too long");
+        say(rt, name, ending, " is too long");
         return None;
     }
     Some(len)
@@ -93,16 +100,26 @@ fn first_difference(a: &[u8], b: &[u8]) -> usize
     place.unwrap_or(a.len().min(b.len()))
 }
 
+fn say_differs(rt: &impl Print, name: &[u8], place: usize)
+    requires { length name.now ≤ 255 }
+{
+    let mut digits = [0u8; 20];
+    let k = io::decimal(place as u64, &mut digits);
+    let mut line = [0u8; 64];
+    let at = put(&mut line, 0, b" differs from octet ");
+    let n = put(&mut line, at, &digits[..k]);
+    say(rt, name, &line[..n], " on");
+}
+
 // Whether the texts are the same; else where they differ is written.
 fn same_text(rt: &impl Print, name: &[u8], printed: &[u8], wanted: &[u8]) -> bool
+    requires { length name.now ≤ 255 }
     ensures { result ≡ true → printed.now ≡ wanted.now }
 {
     if printed == wanted {
         return true;
     }
-    let place = first_difference(printed, wanted);
-    let _ = rt.write_all(name);
-    let _ = println!(rt; " differs from octet {place} on");
+    say_differs(rt, name, first_difference(printed, wanted));
     false
 }
 
@@ -112,12 +129,13 @@ fn say_unnamed(rt: &impl Print) {
 
 // Whether a script prints what it must.
 fn prints(rt: &impl Print, name: &[u8], script: &[u8], wanted: &[u8], out: &mut [u8]) -> bool
+    requires { length name.now ≤ 255 }
     ensures { result ≡ true → output_of script.now ≡ wanted.now }
 {
     match script_runner::rehearse(script, out) {
         Ok(n) => same_text(rt, name, &out[..n], wanted),
         Err(_) => {
-            say(rt, name, " has too long an output");
+            say(rt, name, b"", " has too long an output");
             false
         }
     }
@@ -133,10 +151,10 @@ fn agrees(
 ) -> bool
     requires { length name.now ≤ 255 }
 {
-    let Some(m) = load(rt, name, ".in", script) else {
+    let Some(m) = load(rt, name, b".in", script) else {
         return false;
     };
-    let Some(n) = load(rt, name, ".out", wanted) else {
+    let Some(n) = load(rt, name, b".out", wanted) else {
         return false;
     };
     prints(rt, name, &script[..m], &wanted[..n], out)
