@@ -6,3 +6,5 @@ pub mod Formed
 pub mod Runs
 -- document 01's example
 pub mod Example
+-- a script played piece by piece
+pub mod Pieces
