@@ -16,6 +16,10 @@ put_over a l x m e =
     let g : m ≡ x ++ drop (a + length x) l = e ∙ rw (rest_from l a, drop-drop (length x) a l) in
     put_back_lem a l m ∙ rw g
 
+pub over_length : (a : ℕ) (x b : List ℕ) → a + length x ≤ length b → length (over a x b) ≡ length b
+over_length a x b h =
+    omega (arith, h, length-append (take a b) (x ++ drop (a + length x) b), length-append x (drop (a + length x) b), length-take-le a b (omega (arith, h)), length-drop (a + length x) b)
+
 -- Of a text t, k octets stand at the front of the buffer b; x is what comes next, and y the rest
 
 module _ (t x y : List ℕ) (k : ℕ) (next : drop k t ≡ x ++ y) (h : k ≤ length t) where
