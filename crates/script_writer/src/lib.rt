@@ -2,13 +2,14 @@
 #![tactic(auto)]
 
 ghost use Rattle.std.specs.Prelude.{◌≡◌, ◌+◌, ◌≤◌, length};
+ghost use Rattle.answers.specs.Numbers.{number_of};
 ghost use Rattle.script.specs.Put.{over, front};
 ghost use Rattle.script.specs.Fields.{digit};
 ghost use Rattle.script.specs.Result.{unreadable, field, result_as};
 ghost use Rattle.floor_link.specs.Answered.{line_with, line_from};
 ghost use Rattle.script_writer.specs.Held.{held_text};
 
-use answers::Refusal;
+use answers::{Answer, Refusal};
 use floor_link::Line;
 use structs::Kind;
 
@@ -85,23 +86,13 @@ fn digit_of(n: u8) -> u8
     b'0' + n % 10
 }
 
-// ANSWER, and what else is told.
-fn numbers(answer: Result<Line, Refusal>) -> (u8, Line)
-    ensures { line_with result.0 result.1 ≡ line_from answer }
-{
-    match answer {
-        Ok(l) => (0, l),
-        Err(r) => (u8::from(r), NOTHING),
-    }
-}
-
-// EVENT ANSWER SENT GIVENUP HELD TABLES, of an event of this kind.
+// EVENT ANSWER SENT GIVENUP HELD TABLES, of any answer beside any numbers.
 #[tactic(auto, using(crate::proofs::Short::field_short, crate::proofs::Short::name_short, crate::proofs::Short::text_short))]
-pub fn result(line: &mut [u8; 32], kind: Kind, answer: Result<Line, Refusal>) -> usize
-    ensures value { result ≡ length (result_as kind (line_from answer)) }
-    ensures line_after { line.new ≡ front (result_as kind (line_from answer)) line.old }
+pub fn result_with(line: &mut [u8; 32], kind: Kind, answer: Answer, l: Line) -> usize
+    ensures value { result ≡ length (result_as kind (line_with (number_of answer) l)) }
+    ensures line_after { line.new ≡ front (result_as kind (line_with (number_of answer) l)) line.old }
 {
-    let (n, l) = numbers(answer);
+    let n = answers::number(answer);
     let mut text = Text {
         octets: line,
         len: 0,
@@ -113,6 +104,25 @@ pub fn result(line: &mut [u8; 32], kind: Kind, answer: Result<Line, Refusal>) ->
     text.put_held((events::is_who(kind) && n == 0).then_some((l.held, l.tables)));
     text.put(b"\n");
     text.len
+}
+
+// ANSWER, and what else is told.
+fn numbers(answer: Result<Line, Refusal>) -> (Answer, Line)
+    ensures { line_with (number_of result.0) result.1 ≡ line_from answer }
+{
+    match answer {
+        Ok(l) => (Ok(()), l),
+        Err(r) => (Err(r), NOTHING),
+    }
+}
+
+// EVENT ANSWER SENT GIVENUP HELD TABLES, of an event of this kind.
+pub fn result(line: &mut [u8; 32], kind: Kind, answer: Result<Line, Refusal>) -> usize
+    ensures value { result ≡ length (result_as kind (line_from answer)) }
+    ensures line_after { line.new ≡ front (result_as kind (line_from answer)) line.old }
+{
+    let (answer, l) = numbers(answer);
+    result_with(line, kind, answer, l)
 }
 
 // The line of an unreadable one.
