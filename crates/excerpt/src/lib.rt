@@ -86,20 +86,26 @@ fn change(t: &mut Associations, edit: Edit, at: usize, row: Association)
     }
 }
 
+// The excerpt put back into the record, where that stands.
+pub fn store(a: &mut AccessPoint, x: &Excerpt)
+    requires { (a.old.associations.count ≤ 16) × Allowed x.now.edit x.now.at a.old.associations.count }
+    ensures { a.new ≡ put_back a.old x.now }
+{
+    change(&mut a.associations, x.edit, x.at, x.row);
+    a.moves = x.moves;
+    a.next_identifier = x.next_identifier;
+    a.opened = x.opened;
+    a.resent = x.resent;
+    a.answered = x.answered;
+    a.given_up = x.given_up;
+}
+
 // The record with the excerpt put back.
 pub fn put_back(a: &AccessPoint, x: &Excerpt) -> AccessPoint
     requires { (a.now.associations.count ≤ 16) × Allowed x.now.edit x.now.at a.now.associations.count }
     ensures { result ≡ put_back a.now x.now }
 {
-    let mut associations = a.associations;
-    change(&mut associations, x.edit, x.at, x.row);
-    AccessPoint {
-        associations,
-        moves: x.moves,
-        next_identifier: x.next_identifier,
-        opened: x.opened,
-        resent: x.resent,
-        answered: x.answered,
-        given_up: x.given_up,
-    }
+    let mut after = *a;
+    store(&mut after, x);
+    after
 }
