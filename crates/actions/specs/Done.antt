@@ -1,5 +1,5 @@
 -- What an access point does at an event, with the answer: what the code's struct means, and the definitions that the contracts cite.
-use Rattle.std.specs.Prelude.{ℕ, cond, not, List, [], ◌∷◌, map, ltb, length, Option, Result, Ok, Err}
+use Rattle.std.specs.Prelude.{ℕ, ◌≡◌, ◌≤◌, cond, not, List, [], ◌∷◌, map, ltb, length, Option, Result, Ok, Err}
 use Rattle.lists.specs.Table.{Test, first_of, accepts}
 use Rattle.answers.specs.declared.Refusal.{Refusal}
 use Rattle.answers.specs.Numbers.{refusal_number}
@@ -37,6 +37,22 @@ quietly a = record { point = a; sent = outbox_of []; given_up = 0 }
 abbrev pub done_of : AccessPoint → Result Action Refusal → Done
 done_of a (Ok x) = record { answer = 0; point = x.point; sent = x.sent; given_up = x.given_up }
 done_of a (Err r) = unchanged_by (refusal_number r) a
+
+-- of the record a, which is changed where it stands and is b afterwards, with the packets s sent: what an accepted event does, which gives up g
+-- moves, or a as it came and the refusal
+abbrev pub done_in : AccessPoint → AccessPoint → Outbox → Result ℕ Refusal → Done
+done_in a b s (Ok g) = record { answer = 0; point = b; sent = s; given_up = g }
+done_in a b s (Err r) = unchanged_by (refusal_number r) a
+
+-- refused, the record b is a as it came
+abbrev pub Left : Result ℕ Refusal → AccessPoint → AccessPoint → Type 0
+Left (Ok g) b a = Unit {0}
+Left (Err r) b a = b ≡ a
+
+-- the lists of a record that is lent have room for as many as its counts say, as the type of a record by value says
+pub record Spans (a : AccessPoint) : Type 0 where
+  pub associations : a.associations.count ≤ length a.associations.items
+  pub moves : a.moves.count ≤ length a.moves.items
 
 -- a join, put back into the record a; refused, a as it came
 abbrev pub joining_of : AccessPoint → Result Joining Refusal → Done

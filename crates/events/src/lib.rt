@@ -2,7 +2,7 @@
 // and what is then in flight, and stores the two: nothing else of the network changes, and nothing else is copied.
 #![tactic(auto)]
 
-ghost use Rattle.std.specs.Prelude.{ℕ, ◌≡◌, true, cond, List, None, map, ◌+◌, ◌*◌, ◌≤◌, ◌<◌, ltb, length};
+ghost use Rattle.std.specs.Prelude.{ℕ, ◌≡◌, true, cond, List, [], None, map, ◌+◌, ◌*◌, ◌≤◌, ◌<◌, ltb, length};
 ghost use Rattle.lists.specs.Places.{every, All};
 ghost use Rattle.machine.specs.Packets.{readable, octets_in};
 ghost use Rattle.machine.specs.Events as machine;
@@ -11,7 +11,8 @@ ghost use Rattle.record.specs.Lens.{get_point};
 ghost use Rattle.structs.specs.Lists.{get_moves};
 ghost use Rattle.record.specs.Valid.{Usable};
 ghost use Rattle.sending.specs.Sends.{sequence_within};
-ghost use Rattle.actions.specs.Done.{done_of};
+ghost use Rattle.in_flight.specs.Post.{outbox_of};
+ghost use Rattle.actions.specs.Done.{Spans, Left, done_of, done_in};
 ghost use Rattle.events.specs.Event.{is_who, event_from};
 ghost use Rattle.events.specs.Apart.{packet_for, point_for, taken_for, action_for, settled_by};
 
@@ -54,19 +55,22 @@ pub fn is_who(kind: Kind) -> bool
     kind == Kind::Who
 }
 
-// What the AP that acts does: its record is a, and the packet is p.
-pub fn action(
+// What the AP that acts does, its record a changed where it stands: the packet is p. What is sent goes into `sent`, which holds nothing before.
+pub fn act(
+    a: &mut AccessPoint,
+    sent: &mut Outbox,
     e: Event,
     context: &[u8],
     setup: Setup,
     count: usize,
-    a: AccessPoint,
-    p: InFlight,
-) -> Result<Action, Refusal>
-    requires usable { Usable a }
-    requires moves_value { (every sequence_within (get_moves a.moves) ≡ true) × (setup.ap_count ≤ 8) }
-    requires len_bound { e.at < count → (p.len ≤ 82) × (readable (octets_in p) ≡ true) }
-    ensures { done_of a result ≡ action_for e.kind e.at e.station e.sequence e.old context.now setup.ap_count setup.timeout setup.resend_limit count a p }
+    p: &InFlight,
+) -> Result<u8, Refusal>
+    requires usable { Usable a.old × Spans a.old }
+    requires sent_value { sent.old ≡ outbox_of [] }
+    requires moves_value { (every sequence_within (get_moves a.old.moves) ≡ true) × (setup.ap_count ≤ 8) }
+    requires len_bound { e.at < count → (p.now.len ≤ 82) × (readable (octets_in p.now) ≡ true) }
+    ensures done { done_in a.old a.new sent.new result ≡ action_for e.kind e.at e.station e.sequence e.old context.now setup.ap_count setup.timeout setup.resend_limit count a.old p.now }
+    ensures refused { Left result a.new a.old }
 {
     let Event {
         kind,
@@ -82,14 +86,39 @@ pub fn action(
                 sequence,
                 old,
             };
-            actions::join(a, at, setup, request, context)
+            actions::join_in(a, sent, at, setup, request, context)
         }
-        Kind::Leave => actions::leave(a, at, setup.ap_count, station),
-        Kind::Deliver | Kind::Repeat => actions::receive(a, p, at, count),
-        Kind::Lose => actions::lose(a, at, count),
-        Kind::Tick => actions::tick(a, at, setup.ap_count, setup.timeout),
-        Kind::Who => Ok(actions::quietly(a)),
+        Kind::Leave => actions::leave_in(a, at, setup.ap_count, station),
+        Kind::Deliver | Kind::Repeat => actions::receive_in(a, sent, p, at, count),
+        Kind::Lose => actions::lose_in(at, count),
+        Kind::Tick => actions::tick_in(a, sent, at, setup.ap_count, setup.timeout),
+        Kind::Who => Ok(0),
     }
+}
+
+// The same with a record that is handed over.
+#[tactic(auto, using(sending::proofs::Outboxes::outbox_none))]
+pub fn action(
+    e: Event,
+    context: &[u8],
+    setup: Setup,
+    count: usize,
+    a: AccessPoint,
+    p: InFlight,
+) -> Result<Action, Refusal>
+    requires usable { Usable a }
+    requires moves_value { (every sequence_within (get_moves a.moves) ≡ true) × (setup.ap_count ≤ 8) }
+    requires len_bound { e.at < count → (p.len ≤ 82) × (readable (octets_in p) ≡ true) }
+    ensures { done_of a result ≡ action_for e.kind e.at e.station e.sequence e.old context.now setup.ap_count setup.timeout setup.resend_limit count a p }
+{
+    let mut point = a;
+    let mut sent = Outbox::none();
+    let given_up = act(&mut point, &mut sent, e, context, setup, count, &p)?;
+    Ok(Action {
+        point,
+        sent,
+        given_up,
+    })
 }
 
 // Changes the packets in flight: packet k is taken out or not, and then what was sent is put in flight. `taken` stays a bool

@@ -13,7 +13,7 @@ ghost use Rattle.events.specs.Event.{is_who, event_from};
 ghost use Rattle.floor_link.specs.Answered.{set_up_of, set_up_done, reply_at, Unchanged, reply_from};
 
 use answers::Refusal;
-use structs::{AccessPoint, Event, Network, Setup};
+use structs::{AccessPoint, Event, Network, Outbox, Setup};
 
 // SENT, GIVENUP, HELD and TABLES of an accepted event.
 #[derive(Clone, Copy, Debug, PartialEq, Eq)]
@@ -73,19 +73,19 @@ fn change(network: &mut Network, e: Event, context: &[u8]) -> Result<Line, Refus
     let k = events::packet_of(kind, at, count);
     let p = network.in_flight.items[k];
     let b = events::point_of(kind, at, n, count, p.to) as usize;
-    let a = network.points[b];
     let setup = Setup {
         ap_count: n,
         timeout: network.timeout,
         resend_limit: network.resend_limit,
     };
-    let x = events::action(e, context, setup, count, a, p)?;
-    network.points[b] = x.point;
+    let mut sent = Outbox::none();
+    let a = &mut network.points[b];
+    let given_up = events::act(a, &mut sent, e, context, setup, count, &p)?;
     let taken = events::takes(kind, at, count);
-    events::settle(&mut network.in_flight, taken, k, &x.sent);
+    events::settle(&mut network.in_flight, taken, k, &sent);
     Ok(Line {
-        sent: x.sent.count as u8,
-        given_up: x.given_up,
+        sent: sent.count as u8,
+        given_up,
         held: 0,
         tables: 0,
     })

@@ -2,20 +2,26 @@
 -- Assumes nothing.
 use Rattle.std.proofs.Common.{ℕ, ◌≤◌, ◌<◌, ◌≡◌, ◌∙◌, refl, sym, ap, subst, true, false, List, arith}
 use lib.ListN.{get_or, set}
+use lib.Seq.{set-get_or}
 use Rattle.machine.specs.Events.{step}
+use Rattle.structs.specs.declared.AccessPoint.{AccessPoint}
 use Rattle.structs.specs.declared.InFlights.{InFlights}
 use Rattle.structs.specs.declared.Network.{Network}
 use Rattle.network.specs.Lens.{get}
 use Rattle.network.specs.Events.{valid_network_record, reply_of, refused}
 use Rattle.network.proofs.LensLaws.{NetworkFits}
 use Rattle.network.proofs.Lent.{valid_fits}
+use Rattle.network.specs.Sizes.{PointSized, Sized}
+use Rattle.record.specs.Valid.{Usable}
+use Rattle.lists.proofs.Every.{all_at}
+use Rattle.sending.proofs.Outboxes.{outbox_none}
 use Rattle.in_flight.proofs.Posted as packets
 use Rattle.std.specs.Prelude.{Result, Ok}
 use Rattle.std.proofs.lemmas.Result.{err_from_is_err_and}
 use Rattle.answers.specs.declared.Refusal.{Refusal}
 use Rattle.answers.specs.Numbers.{refusal_number}
 use Rattle.answers.proofs.Numbers.{refusal_above}
-use Rattle.actions.specs.Done.{Done, done_of, unchanged_by}
+use Rattle.actions.specs.Done.{Done, Spans, done_in, unchanged_by}
 use Rattle.structs.specs.declared.Event.{Event}
 use Rattle.events.specs.Event.{event_from, is_who}
 use Rattle.events.specs.Apart.{packet_for, point_for, taken_for, action_for}
@@ -74,41 +80,56 @@ bounds-network-b c =
     let z : NetworkFits w = valid_fits w c.requires.network_value.0 v in
     omega (arith, on_floor w z v c.args.e c.packet_of-k.result c.point_of-b.result c.packet_of-k.ensures c.point_of-b.ensures, eight w z v c.args.e)
 
-pub action-requires : goal.action-requires
-action-requires c =
+-- the access point's lists, behind the reference
+spans : (w : Network) (z : NetworkFits w) → Sized w → valid_network_record w ≡ true → (b : ℕ) → b < w.ap_count → Spans (get_or w.points b past)
+spans w z s v b l =
+    let u : Usable (get_or w.points b past) = usable_at w z v b past l in
+    let p : PointSized (get_or w.points b past) = all_at w.points b past s.each (omega (arith, s.points, l, (setup_within w z v).count.1)) in
+    record { associations = omega (arith, u.associations, p.associations); moves = omega (arith, u.moves, p.moves) }
+
+pub act-requires : goal.act-requires
+act-requires c =
     let w = c.args.network.now in
+    let s = c.requires.network_value.0 in
     let v = c.requires.network_value.1 in
-    let z : NetworkFits w = valid_fits w c.requires.network_value.0 v in
+    let z : NetworkFits w = valid_fits w s v in
     let b = c.point_of-b.result in
     let l : b < w.ap_count = on_floor w z v c.args.e c.packet_of-k.result b c.packet_of-k.ensures c.point_of-b.ensures in
     record {
-      usable = usable_at w z v b past l;
+      usable = (usable_at w z v b past l, spans w z s v b l);
+      sent_value = c.none-sent.ensures ∙ outbox_none;
       moves_value = (moves_at w z v b past l, eight w z v c.args.e);
       len_bound = rw c.packet_of-k.ensures (packet_reads w z v c.args.e.kind c.args.e.at packets.past);
     }
 
-pub returns-in_err-x-clause-reply_value : goal.returns-in_err-x-clause-reply_value
+-- the network with this record of access point b
+abbrev with_point : Network → ℕ → AccessPoint → Network
+with_point w b a = record { ap_count = w.ap_count; timeout = w.timeout; resend_limit = w.resend_limit; points = set w.points b a; in_flight = w.in_flight }
+
+-- refused, the access point's record is as it came, and so is the network's
+as_it_came : (w : Network) (b : ℕ) (a : AccessPoint) → a ≡ get_or w.points b past → with_point w b a ≡ w
+as_it_came w b a e =
+    ap (λ (x : AccessPoint). with_point w b x) e
+    ∙ ap (λ (l : List AccessPoint). record { ap_count = w.ap_count; timeout = w.timeout; resend_limit = w.resend_limit; points = l; in_flight = w.in_flight }) (set-get_or w.points b past)
+
+pub returns-in_err-given_up-clause-reply_value : goal.returns-in_err-given_up-clause-reply_value
 unfolding refused
-returns-in_err-x-clause-reply_value c =
+returns-in_err-given_up-clause-reply_value c =
     let w = c.args.network.now in
     let v = c.requires.network_value.1 in
     let z : NetworkFits w = valid_fits w c.requires.network_value.0 v in
     let e = err_from_is_err_and c.from_residual.result c.from_residual.ensures.1 in
-    ap (reply_at w) e.1
-    ∙ left w z v c.args.e e.0 c.packet_of-k.result c.point_of-b.result c.args.context.now c.requires.kind_value c.packet_of-k.ensures c.point_of-b.ensures
-    (ap (λ (r : Refusal). unchanged_by (refusal_number r) (get_or w.points c.point_of-b.result past)) e.2 ∙ c.in_err-x.ensures)
+    let b = c.point_of-b.result in
+    ap (λ (n : Network). reply_at n c.from_residual.result) (as_it_came w b c.act.new.a c.in_err-given_up.ensures.refused)
+    ∙ ap (reply_at w) e.1
+    ∙ left w z v c.args.e e.0 c.packet_of-k.result b c.args.context.now c.requires.kind_value c.packet_of-k.ensures c.point_of-b.ensures
+    (ap (λ (r : Refusal). unchanged_by (refusal_number r) (get_or w.points b past)) e.2 ∙ c.in_err-given_up.ensures.done)
 
-pub returns-in_err-x-clause-refused_value : goal.returns-in_err-x-clause-refused_value
-returns-in_err-x-clause-refused_value c =
-    let e = err_from_is_err_and c.from_residual.result c.from_residual.ensures.1 in
-    subst (λ (r : Result Line Refusal). Unchanged r c.args.network.now c.args.network.now) (sym e.1) refl
-
-pub bounds-network-b-2 : goal.bounds-network-b-2
-bounds-network-b-2 c =
+pub returns-in_err-given_up-clause-refused_value : goal.returns-in_err-given_up-clause-refused_value
+returns-in_err-given_up-clause-refused_value c =
     let w = c.args.network.now in
-    let v = c.requires.network_value.1 in
-    let z : NetworkFits w = valid_fits w c.requires.network_value.0 v in
-    omega (arith, on_floor w z v c.args.e c.packet_of-k.result c.point_of-b.result c.packet_of-k.ensures c.point_of-b.ensures, eight w z v c.args.e)
+    let e = err_from_is_err_and c.from_residual.result c.from_residual.ensures.1 in
+    subst (λ (r : Result Line Refusal). Unchanged r (with_point w c.point_of-b.result c.act.new.a) w) (sym e.1) (as_it_came w c.point_of-b.result c.act.new.a c.in_err-given_up.ensures.refused)
 
 pub settle-requires : goal.settle-requires
 settle-requires c =
@@ -118,7 +139,7 @@ settle-requires c =
     let l : c.point_of-b.result < w.ap_count = on_floor w z v c.args.e c.packet_of-k.result c.point_of-b.result c.packet_of-k.ensures c.point_of-b.ensures in (
       few_packets w z v,
       c.requires.network_value.0.air,
-      few w z v c.args.e c.packet_of-k.result c.point_of-b.result c.args.context.now (done_of (get_or w.points c.point_of-b.result past) (Ok c.in_ok-x.x)) l c.in_ok-x.ensures,
+      few w z v c.args.e c.packet_of-k.result c.point_of-b.result c.args.context.now (done_in (get_or w.points c.point_of-b.result past) c.act.new.a c.act.new.sent (Ok c.in_ok-given_up.given_up)) l c.in_ok-given_up.ensures.done,
       λ q. rw c.packet_of-k.ensures (taken_there c.args.e.kind c.args.e.at w.in_flight.count (sym c.takes-taken.ensures ∙ q)),
     )
 
@@ -128,7 +149,7 @@ overflow_cast-result c =
     let v = c.requires.network_value.1 in
     let z : NetworkFits w = valid_fits w c.requires.network_value.0 v in
     let l : c.point_of-b.result < w.ap_count = on_floor w z v c.args.e c.packet_of-k.result c.point_of-b.result c.packet_of-k.ensures c.point_of-b.ensures in
-    let f = few w z v c.args.e c.packet_of-k.result c.point_of-b.result c.args.context.now (done_of (get_or w.points c.point_of-b.result past) (Ok c.in_ok-x.x)) l c.in_ok-x.ensures in
+    let f = few w z v c.args.e c.packet_of-k.result c.point_of-b.result c.args.context.now (done_in (get_or w.points c.point_of-b.result past) c.act.new.a c.act.new.sent (Ok c.in_ok-given_up.given_up)) l c.in_ok-given_up.ensures.done in
     omega (arith, f)
 
 pub returns-clause-reply_value : goal.returns-clause-reply_value
@@ -137,9 +158,9 @@ returns-clause-reply_value c =
     let v = c.requires.network_value.1 in
     let z : NetworkFits w = valid_fits w c.requires.network_value.0 v in
     let b = c.point_of-b.result in
-    let x = c.in_ok-x.x in
+    let s = c.act.new.sent in
     -- the record with these packets in flight
-    let holding : InFlights → Network = λ i. record { ap_count = w.ap_count; timeout = w.timeout; resend_limit = w.resend_limit; points = set w.points b x.point; in_flight = i } in
-    ap (λ (i : InFlights). record { line = record { answer = 0; sent = x.sent.count; given_up = x.given_up; held = 0; tables = 0 }; network = holding i }) c.settle.ensures
+    let holding : InFlights → Network = λ i. record { ap_count = w.ap_count; timeout = w.timeout; resend_limit = w.resend_limit; points = set w.points b c.act.new.a; in_flight = i } in
+    ap (λ (i : InFlights). record { line = record { answer = 0; sent = s.count; given_up = c.in_ok-given_up.given_up; held = 0; tables = 0 }; network = holding i }) c.settle.ensures
     ∙ performed_by w z v c.args.e.at c.args.e.station c.args.e.sequence c.args.e.old c.args.context.now packets.past past c.args.e.kind b c.packet_of-k.result c.takes-taken.result
-    (done_of (get_or w.points b past) (Ok x)) c.requires.kind_value c.packet_of-k.ensures c.point_of-b.ensures c.takes-taken.ensures c.in_ok-x.ensures
+    (done_in (get_or w.points b past) c.act.new.a s (Ok c.in_ok-given_up.given_up)) c.requires.kind_value c.packet_of-k.ensures c.point_of-b.ensures c.takes-taken.ensures c.in_ok-given_up.ensures.done
