@@ -9,7 +9,7 @@ ghost use Rattle.machine.specs.Packets.{packet_of};
 ghost use Rattle.machine.specs.Valid.{valid_setup};
 ghost use Rattle.record.specs.Valid.{valid_record, valid_lone_record, Usable};
 ghost use Rattle.receiving.specs.Receive.{IsShort};
-ghost use Rattle.access_point.specs.Tick.{tick_done};
+ghost use Rattle.access_point.specs.Tick.{ticking_of, tick_done};
 ghost use Rattle.access_point.specs.Outside.{reply_fields, outside_of, answer_done, outside_done};
 
 use answers::Refusal;
@@ -61,22 +61,40 @@ pub fn valid_lone(l: LoneAccessPoint) -> bool
         && valid(l.point, l.ap_count)
 }
 
-// A tick: each open move loses one; at 0 it is sent again or given up. The associations stay.
+// What a tick sends again, and how many moves it gives up.
+#[derive(Clone, Copy)]
+pub struct Lapsed {
+    pub due: Moves,
+    pub given_up: u8,
+}
+
+// A tick of a record that is changed where it stands: each open move loses one; at 0 it is sent again or given up. The associations stay.
+pub fn tick_in(a: &mut AccessPoint, timeout: u16) -> Lapsed
+    requires usable { Usable a.old }
+    requires rows { a.old.associations.count ≤ length a.old.associations.items }
+    requires moves { a.old.moves.count ≤ length a.old.moves.items }
+    ensures { ticking_of a.new result ≡ tick_done timeout a.old }
+{
+    let t = moves::tick(&a.moves, timeout);
+    a.moves = t.kept;
+    a.resent = a.resent.wrapping_add(t.due.count as u32);
+    a.given_up = a.given_up.wrapping_add(t.given_up as u32);
+    Lapsed {
+        due: t.due,
+        given_up: t.given_up,
+    }
+}
+
+// The same of a record that is handed over.
 pub fn tick(a: AccessPoint, timeout: u16) -> Ticking
     requires { Usable a }
     ensures { result ≡ tick_done timeout a }
 {
-    let t = moves::tick(&a.moves, timeout);
-    let moves = t.kept;
-    let due = t.due;
+    let mut point = a;
+    let t = tick_in(&mut point, timeout);
     Ticking {
-        point: AccessPoint {
-            moves,
-            resent: a.resent.wrapping_add(due.count as u32),
-            given_up: a.given_up.wrapping_add(t.given_up as u32),
-            ..a
-        },
-        due,
+        point,
+        due: t.due,
         given_up: t.given_up,
     }
 }

@@ -208,8 +208,7 @@ pub fn tick_in(
     if ap_count as u16 <= at {
         return Err(Refusal::UnknownAccessPoint);
     }
-    let t = access_point::tick(*a, timeout);
-    *a = t.point;
+    let t = access_point::tick_in(a, timeout);
     *sent = sending::resend(at as u8, t.due);
     Ok(t.given_up)
 }

@@ -5,7 +5,7 @@ use Rattle.lists.specs.Places.{every}
 use Rattle.structs.specs.Lists.{get_moves}
 use Rattle.access_point.specs.declared.Ticking.{Ticking}
 use Rattle.access_point.proofs.Ticks.{due_few}
-use Rattle.access_point.specs.Tick.{tick_done}
+use Rattle.access_point.specs.Tick.{ticking_of, tick_done}
 use Rattle.sending.specs.Sends.{sequence_within}
 use Rattle.actions.proofs.Laws.{tick_off, due_within, tick_done_lem}
 use Rattle.actions.proofs.tick_in.Goals as goal
@@ -19,13 +19,13 @@ pub resend-requires : goal.resend-requires
 unfolding tick_done
 resend-requires c =
     let a = c.args.a.now in
-    let d = ap (λ (x : Ticking). x.due) c.tick-t.ensures in (
+    let d = ap (λ (x : Ticking). x.due) c.tick_in-t.ensures in (
       due_few c.args.timeout a _ (record { associations = c.requires.usable.1.associations; moves = c.requires.usable.1.moves }) c.requires.usable.0.moves d,
       ap (λ m. every sequence_within (get_moves m)) d ∙ due_within c.args.timeout a c.requires.moves_value,
     )
 
 pub returns-clause-done : goal.returns-clause-done
 returns-clause-done c =
-    let t = c.tick-t in
-    ap (λ (o : Outbox). record { answer = 0; point = t.result.point; sent = o; given_up = t.result.given_up }) c.resend.ensures
-    ∙ tick_done_lem c.args.at c.args.ap_count c.args.timeout c.args.a.now c.if-ap_count-at.false t.result t.ensures
+    let t = ticking_of c.tick_in-t.new.a c.tick_in-t.result in
+    ap (λ (o : Outbox). record { answer = 0; point = t.point; sent = o; given_up = t.given_up }) c.resend.ensures
+    ∙ tick_done_lem c.args.at c.args.ap_count c.args.timeout c.args.a.now c.if-ap_count-at.false t c.tick_in-t.ensures
