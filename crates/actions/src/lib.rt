@@ -280,10 +280,10 @@ pub fn receive(a: AccessPoint, p: InFlight, at: u16, count: usize) -> Result<Act
 pub fn lose_in(at: u16, count: usize) -> Result<u8, Refusal>
     ensures { (a : AccessPoint) → done_in a a (outbox_of []) result ≡ lose_of at count a }
 {
-    if count <= at as usize {
-        return Err(Refusal::UnknownPacket);
+    if (at as usize) < count {
+        return Ok(0);
     }
-    Ok(0)
+    Err(Refusal::UnknownPacket)
 }
 
 // The same, with a record that stays.

@@ -3,8 +3,8 @@
 use Rattle.actions.proofs.Laws.{lose_none, lose_done}
 use Rattle.actions.proofs.lose_in.Goals as goal
 
-pub returns-then-count-at : goal.returns-then-count-at
-returns-then-count-at c a = lose_none c.args.at c.args.count a c.if-count-at.true
+pub returns-then-at-count : goal.returns-then-at-count
+returns-then-at-count c a = lose_done c.args.at c.args.count a c.if-at-count.true
 
 pub returns : goal.returns
-returns c a = lose_done c.args.at c.args.count a c.if-count-at.false
+returns c a = lose_none c.args.at c.args.count a c.if-at-count.false
