@@ -14,8 +14,8 @@ use lib.Dec.{leb}
 use lib.ListN.{length, take, drop, get_or, replicate, set, take-append-drop, length-append, length-replicate, length-take, length-drop, length-set, drop_of_length-le, replicate-append-replicate}
 use lib.Seq.{length-take-le, take_all, drop-cons, set_at, set_split, set-append_left, append_snoc, take-append_seam, drop-append_seam, drop-append-add, drop-drop}
 use Rattle.lists.specs.Places.{without}
-use Rattle.lists.specs.Search.{placed}
-use Rattle.lists.proofs.Search.{get_or_used}
+use Rattle.lists.specs.Search.{placed, shifted}
+use Rattle.lists.proofs.Search.{get_or_used, length_without, shift_end}
 use Rattle.slots.specs.Lists.{over}
 
 pub le_or : (m n : ℕ) → (m ≤ n) ⊎ (n < m)
@@ -139,6 +139,14 @@ module _ {A : Type 0} where
       rw (sub-one, j, s, drop-cons xs m b, set_at (take i xs ++ take k (drop (i + 1) xs)) (get_or xs m b) (drop (suc m) xs) b m e)
       (ap (λ (l : List A). l ++ (b ∷ drop (suc m) xs)) (sym w)
       ∙ sym (over_at b (suc m) m 1 (without i (take (suc m) xs)) xs (ap length w ∙ e) (omega arith) ∙ ap (λ (n : ℕ). without i (take (suc m) xs) ++ (b ∷ drop n xs)) (add-one m)))
+
+  -- the same by a loop that moves the later ones one by one
+  pub shifted_out : (b : A) (i n : ℕ) (xs : List A) → i < n → n ≤ length xs → set (shifted i (n - 1) xs) (n - 1) b ≡ over b n (without i (take n xs)) xs
+  shifted_out b i n xs h l =
+      let t : length (take n xs) ≡ n = length-take-le n xs l in
+      let e : length (without i (take n xs)) ≡ n - 1 = omega (arith, length_without i (take n xs) (omega arith)) in
+      let f : n - 1 + 1 ≡ n = omega arith in
+      shift_end i n xs b h l ∙ sym (over_at b n (n - 1) 1 (without i (take n xs)) xs e (omega arith) ∙ ap (λ (k : ℕ). without i (take n xs) ++ (b ∷ drop k xs)) f)
 
   -- an element added last
   pub pushed : (b : A) (n : ℕ) (xs : List A) (p : A) → n < length xs → set xs n p ≡ over b n (take n xs ++ (p ∷ [])) xs
