@@ -8,8 +8,8 @@ use native.Mathlib.Omega.{arith}
 use native.Mathlib.Nat.{pow-suc, lt_of_lt_of_le}
 use lib.Count.{ones, ones_cat, ones-le}
 use lib.Dec.{ltb}
-use lib.ListN.{length, get_or, drop, length-map, length-drop, drop_of_length-le}
-use lib.Seq.{drop-cons}
+use lib.ListN.{length, get_or, take, drop, length-map, length-drop, drop_of_length-le}
+use lib.Seq.{drop-cons, get_or-take, length-take-le}
 use lib.Pow.{pow_mono}
 use Rattle.lists.specs.Search.{index_by}
 use Rattle.machine.specs.Stations.{Station}
@@ -66,6 +66,13 @@ module _ (s : Station) where
       let j : suc (i - 1) ≡ i = omega arith in
       let c : drop (i - 1) xs ≡ get_or xs (i - 1) d ∷ drop i xs = drop-cons xs (i - 1) d (omega arith) ∙ ap (λ (k : ℕ). get_or xs (i - 1) d ∷ drop k xs) j in
       q ∙ rw (c, e)
+
+  -- the same of the first n alone
+  pub held_next_used : (n i held r : ℕ) (xs : List AccessPoint) (d : AccessPoint) → 0 < i → i ≤ n → n ≤ length xs → held ≡ held_by s (map get_point (drop i (take n xs)))
+      → r ≡ cond (holds s (get_point (get_or xs (i - 1) d))) 1 0 + 2 * held → r ≡ held_by s (map get_point (drop (i - 1) (take n xs)))
+  held_next_used n i held r xs d l m k e q =
+      let c : get_or (take n xs) (i - 1) d ≡ get_or xs (i - 1) d = get_or-take n xs (i - 1) d (omega arith) in
+      held_next i held r (take n xs) d l (omega (arith, length-take-le n xs k)) e (q ∙ rw c)
 
   -- whether it has a row of the station, by the place where it was looked for
   pub holds_by : (a : AccessPoint) (j : ℕ) → j ≡ index_by (is_of s) (get_associations a.associations)
