@@ -1,7 +1,8 @@
 -- The reader's two steps, the tests of the header and of the data, decide on the whole packet; and the context block lies within it.
 -- Assumes nothing.
-use Prim.Native.Nat.{ℕ, ◌+◌, ◌-◌, ◌≤◌}
+use Prim.Native.Nat.{ℕ, zero, suc, ◌+◌, ◌-◌, ◌≤◌}
 use Rattle.std.proofs.Common.{is_ok, Result, Ok, Err}
+use Rattle.std.specs.Result.{result_unwrap_or}
 use mathlib.Core.Path.{◌≡◌, refl, sym, ap, ◌∙◌}
 use mathlib.Core.List.{List, [], ◌∷◌}
 use mathlib.Core.Bool.{true, cond, not, ◌&&◌}
@@ -16,10 +17,13 @@ use Rattle.lists.proofs.Fronts.{rest_from}
 use Rattle.lists.proofs.Tables.{in_parts, tests}
 use Rattle.answers.specs.declared.Refusal.{Refusal}
 use Rattle.answers.proofs.Numbers.{refusal_above, ok_is_zero}
+use Rattle.packet.specs.declared.Command.{Command}
+use Rattle.packet.specs.declared.Command.TheVariants.{AddNotify, MoveNotify, MoveResponse}
+use Rattle.packet.specs.Fields.{octet_of, Names}
 use Rattle.packet.specs.Layout.{is_add, command_in, identifier_in, length_in, data_in, status_in}
 use Rattle.reader.specs.Refusals.{head_tests, front_tests, context_off, data_tests, reader_tests}
 use Rattle.reader.specs.declared.Received.{Received}
-use Rattle.reader.specs.Read.{Reading, read_as, refused_by, accept, taken, read_data, read_of, context_of}
+use Rattle.reader.specs.Read.{Reading, read_as, refused_by, command_of, accept, taken, read_data, read_of, context_of}
 use Rattle.reader.proofs.Acceptance.{HeaderOk, DataOk, header_ok, header_passes, data_ok, data_passes}
 
 -- the data's tests for the packet s
@@ -82,6 +86,22 @@ header_room s h = grind arith
 
 pub accepted_header : (s : List ℕ) → 0 ≡ first_of (head_tests s) → Room s
 accepted_header s p = header_room s (header_ok s p)
+
+-- the command of a Command octet that is not refused has that octet
+pub octet_back : (n : ℕ) → n ≤ 2 → octet_of (command_of n) ≡ n
+unfolding command_of
+octet_back zero h = refl
+octet_back (suc zero) h = refl
+octet_back (suc (suc zero)) h = refl
+octet_back (suc (suc (suc n))) h = absurd (omega arith)
+
+-- the command that an octet names is its command, and the last stands for an octet that names none
+pub command_named : (n : ℕ) (r : Result Command Refusal) → Names n r → result_unwrap_or r MoveResponse ≡ command_of n
+unfolding command_of
+command_named n (Ok AddNotify) e = rw (← e)
+command_named n (Ok MoveNotify) e = rw (← e)
+command_named n (Ok MoveResponse) e = rw (← e)
+command_named n (Err x) e = rw (ne_eqb n 0 (λ z. omega (arith, e.1, z)), ne_eqb n 1 (λ z. omega (arith, e.1, z)))
 
 -- the context block lies within the packet, and starts at octet 18 at the latest
 pub within : (s : List ℕ) → (read_of s).start + (read_of s).len ≤ length s

@@ -1,8 +1,10 @@
 -- Document 01, "Packets": what reading a list of octets gives.
-use Rattle.std.specs.Prelude.{◌≡◌, refl, ℕ, List, [], ◌∷◌, cond, take, drop, Result, Ok, Err}
+use Rattle.std.specs.Prelude.{◌≡◌, refl, ℕ, List, [], ◌∷◌, cond, take, drop, eqb, Result, Ok, Err}
 use Rattle.lists.specs.Table.{first_of, accepts}
 use Rattle.answers.specs.declared.Refusal.{Refusal}
 use Rattle.answers.specs.Numbers.{refusal_number}
+use Rattle.packet.specs.declared.Command.{Command}
+use Rattle.packet.specs.declared.Command.TheVariants.{AddNotify, MoveNotify, MoveResponse}
 use Rattle.packet.specs.Fields.{octet_of}
 use Rattle.packet.specs.Layout.{command_in, identifier_in, data_in, is_add, status_in, station_in, sequence_in, context_length_in, context_start}
 use Rattle.reader.specs.Refusals.{head_tests, data_tests, reader_tests}
@@ -33,6 +35,10 @@ refused_by n =
 abbrev pub read_as : Result Received Refusal → Reading
 read_as (Ok r) = reading_of r
 read_as (Err e) = refused_by (refusal_number e)
+
+-- the command of an octet that is at most 2
+unfoldable pub command_of : ℕ → Command
+command_of n = cond (eqb n 0) AddNotify (cond (eqb n 1) MoveNotify MoveResponse)
 
 -- r where the tests answer 0, else their refusal
 abbrev pub accept : ℕ → Reading → Reading

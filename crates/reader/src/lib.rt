@@ -9,7 +9,7 @@ ghost use Rattle.packet.specs.Octets.{be16};
 ghost use Rattle.packet.specs.Fields.{octet_of};
 ghost use Rattle.packet.specs.Layout.{command_in, sequence_in, context_length_in};
 ghost use Rattle.reader.specs.Refusals.{head_tests, front_tests, context_off};
-ghost use Rattle.reader.specs.Read.{read_as, read_data, read_of, context_of};
+ghost use Rattle.reader.specs.Read.{read_as, read_data, command_of, read_of, context_of};
 
 use answers::Refusal;
 use packet::Command;
@@ -161,6 +161,14 @@ fn read_response(identifier: u16, size: usize, data: &[u8]) -> Result<Received, 
         start: 18,
         len,
     })
+}
+
+// The command of a Command octet that is at most 2; any other counts as a MOVE-response.
+#[tactic(auto, using(crate::proofs::Steps::command_named))]
+pub fn command_of(octet: u8) -> Command
+    ensures { result ≡ command_of octet }
+{
+    Command::try_from(octet).unwrap_or(Command::MoveResponse)
 }
 
 // Reads a packet: the header, then the data, the part that begins at octet 6, by its command's reader.

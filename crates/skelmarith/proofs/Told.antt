@@ -6,9 +6,10 @@ use Rattle.answers.specs.declared.Refusal.{Refusal}
 use Rattle.packet.specs.declared.Command.{Command}
 use Rattle.packet.specs.declared.Command.TheVariants.{AddNotify, MoveNotify, MoveResponse}
 use Rattle.packet.specs.Fields.{octet_of, fields_of}
+use Rattle.reader.specs.Read.{command_of}
 use Rattle.writer.specs.Write.{writing_of, write_to}
 use Rattle.skelmarith.specs.declared.packets.Written.{Written}
-use Rattle.skelmarith.specs.Packets.{writing_in, Tells, command_of, write_as}
+use Rattle.skelmarith.specs.Packets.{writing_in, Tells, write_as}
 
 pub written_told : (r : Result ℕ Refusal) (w : Written) (b : List ℕ) → Tells r w → writing_in w b ≡ writing_of r b
 written_told (Ok n) w b e = ap (λ (w : Written). writing_in w b) e

@@ -1,9 +1,7 @@
 -- What the exported functions over slices answer: their structs in numbers, and a packet whose command is given as an octet.
-use Rattle.std.specs.Prelude.{◌≡◌, ℕ, cond, List, eqb, ltb, Result, Ok, Err}
+use Rattle.std.specs.Prelude.{◌≡◌, ℕ, cond, List, ltb, Result, Ok, Err}
 use Rattle.answers.specs.declared.Refusal.{Refusal}
 use Rattle.answers.specs.Numbers.{refusal_number}
-use Rattle.packet.specs.declared.Command.{Command}
-use Rattle.packet.specs.declared.Command.TheVariants.{AddNotify, MoveNotify, MoveResponse}
 use Rattle.packet.specs.Fields.{fields_of}
 use Rattle.reader.specs.Read as reader
 use Rattle.writer.specs.Write.{Writing, write_to}
@@ -24,16 +22,12 @@ abbrev pub Tells : Result ℕ Refusal → Written → Type 0
 Tells (Ok n) w = w ≡ record { answer = 0; len = n }
 Tells (Err r) w = w ≡ record { answer = refusal_number r; len = 0 }
 
--- the command of an octet that is at most 2
-unfoldable pub command_of : ℕ → Command
-command_of n = cond (eqb n 0) AddNotify (cond (eqb n 1) MoveNotify MoveResponse)
-
 -- "3: Command above 02", before the writer's own numbers; else the packet of this command is written
 unfoldable pub write_as : ℕ → ℕ → ℕ → List ℕ → ℕ → List ℕ → List ℕ → Writing
 write_as c i t s n x b =
     cond (ltb 2 c)
     (record { answer = 3; len = 0; buffer = b })
-    (write_to (fields_of (record { command = command_of c; identifier = i; status = t; station = s; sequence = n }) x) b)
+    (write_to (fields_of (record { command = reader.command_of c; identifier = i; status = t; station = s; sequence = n }) x) b)
 
 abbrev pub rehearsed_in : Written → List ℕ → played.Rehearsed
 rehearsed_in r b = record { answer = r.answer; len = r.len; buffer = b }
