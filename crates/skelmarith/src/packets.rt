@@ -48,30 +48,32 @@ impl From<Result<usize, Refusal>> for Written {
 pub extern "C" fn skel_read(packet: &[u8]) -> Reading
     ensures { reading_in result ≡ read_of packet.now }
 {
-    match reader::read(packet) {
-        Ok(r) => {
-            let station = r.station;
-            Reading {
-                answer: 0,
-                command: u8::from(r.command),
-                identifier: r.identifier,
-                status: r.status,
-                station,
-                sequence: r.sequence,
-                start: r.start,
-                len: r.len,
-            }
+    // A refusal returns at once. As the value of the other arm of a match it shared the writes of an accepted packet, and took twice the time.
+    let r = match reader::read(packet) {
+        Ok(r) => r,
+        Err(refusal) => {
+            return Reading {
+                answer: u8::from(refusal),
+                command: 0,
+                identifier: 0,
+                status: 0,
+                station: [0; 6],
+                sequence: 0,
+                start: 0,
+                len: 0,
+            };
         }
-        Err(refusal) => Reading {
-            answer: u8::from(refusal),
-            command: 0,
-            identifier: 0,
-            status: 0,
-            station: [0; 6],
-            sequence: 0,
-            start: 0,
-            len: 0,
-        },
+    };
+    let station = r.station;
+    Reading {
+        answer: 0,
+        command: u8::from(r.command),
+        identifier: r.identifier,
+        status: r.status,
+        station,
+        sequence: r.sequence,
+        start: r.start,
+        len: r.len,
     }
 }
 
