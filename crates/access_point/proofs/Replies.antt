@@ -13,11 +13,17 @@ use Rattle.machine.proofs.Wire.{context_in}
 use Rattle.structs.specs.declared.AccessPoint.{AccessPoint}
 use Rattle.structs.specs.declared.LoneAccessPoint.{LoneAccessPoint}
 use Rattle.record.specs.Lens.{get_point, put_point}
+use Rattle.record.specs.Valid.{Usable}
+use Rattle.record.proofs.LensLaws.{Fits}
 use Rattle.receiving.specs.declared.Reply.{Reply}
 use Rattle.receiving.specs.declared.Reply.TheVariants.{Successful, StaleMove}
 use Rattle.receiving.specs.Receive.{Result, message_in, IsShort, replies_of, handled_by}
-use Rattle.access_point.specs.Outside.{Taken, with_record, refused_with, outside_of, answer_done}
+use Rattle.access_point.specs.Outside.{Taken, with_record, refused_with, taken_at, answer_done}
 use Rattle.access_point.proofs.Written.{Fine, written_fine}
+
+-- the arrays of a record, of its sizes, hold what is used
+pub fits : (a : AccessPoint) → (length a.associations.items ≡ 16) × (length a.moves.items ≡ 8) → Usable a → Fits a
+fits a n u = record { associations = omega (arith, n.0, u.associations); moves = omega (arith, n.1, u.moves) }
 
 -- the context of an answer
 pub answer_context : (y : Reply) → IsShort y → length (context_in (message_in y)) ≤ 64
@@ -64,16 +70,16 @@ module _ (l : LoneAccessPoint) (from : ℕ) (p : Packet) (b : List ℕ) (g : Acc
     by_room t q = rw (← one_sent, q, point_is)
 
     module _ (f : Fine fields) (v : List ℕ) where
-      pub answer_refused : (r : Refusal) → writing_of (Err r) v ≡ write_to fields b → outside_of l (Err r) v ≡ answer_done l from p b
+      pub answer_refused : (r : Refusal) → writing_of (Err r) v ≡ write_to fields b → taken_at l (Err r) v ≡ answer_done l from p b
       answer_refused r k = go short refl
         where
-          go : (t : Bool) → short ≡ t → outside_of l (Err r) v ≡ answer_done l from p b
+          go : (t : Bool) → short ≡ t → taken_at l (Err r) v ≡ answer_done l from p b
           go true q = ap (λ (x : Writing). record { answer = x.answer; lone = l; len = 0; buffer = x.buffer }) (rw q at (k ∙ written_fine fields b f)) ∙ by_room true q
           go false q = absurd (omega (arith, refusal_above r, ap (λ (x : Writing). x.answer) (rw q at (k ∙ written_fine fields b f))))
 
-      pub answer_written : (n : ℕ) → writing_of (Ok n) v ≡ write_to fields b → outside_of l (Ok (record { lone = with_record g l; len = n })) v ≡ answer_done l from p b
+      pub answer_written : (n : ℕ) → writing_of (Ok n) v ≡ write_to fields b → taken_at (with_record g l) (Ok n) v ≡ answer_done l from p b
       answer_written n k = go short refl
         where
-          go : (t : Bool) → short ≡ t → outside_of l (Ok (record { lone = with_record g l; len = n })) v ≡ answer_done l from p b
+          go : (t : Bool) → short ≡ t → taken_at (with_record g l) (Ok n) v ≡ answer_done l from p b
           go true q = absurd (omega (arith, ap (λ (x : Writing). x.answer) (rw q at (k ∙ written_fine fields b f))))
           go false q = ap (λ (x : Writing). record { answer = 0; lone = with_record g l; len = x.len; buffer = x.buffer }) (rw q at (k ∙ written_fine fields b f)) ∙ by_room false q

@@ -1,5 +1,5 @@
 -- Outside bytes at an access point alone: what the code's result means, and the definition that the contract cites.
-use Rattle.std.specs.Prelude.{ℕ, cond, List, ◌++◌, length, drop, nat_lt, Result, Ok, Err}
+use Rattle.std.specs.Prelude.{ℕ, cond, ◌≡◌, List, ◌++◌, length, drop, nat_lt, Result, Ok, Err}
 use Rattle.answers.specs.declared.Refusal.{Refusal}
 use Rattle.answers.specs.Numbers.{refusal_number}
 use Rattle.packet.specs.Fields.{Fields}
@@ -34,6 +34,16 @@ refused_with n l b = record { answer = n; lone = l; len = 0; buffer = b }
 abbrev pub outside_of : LoneAccessPoint → Result Answered Refusal → List ℕ → Taken
 outside_of l (Ok x) b = record { answer = 0; lone = x.lone; len = x.len; buffer = b }
 outside_of l (Err e) b = refused_with (refusal_number e) l b
+
+-- the same of a record that is changed where it stands, and is f then
+abbrev pub taken_at : LoneAccessPoint → Result ℕ Refusal → List ℕ → Taken
+taken_at f (Ok n) b = record { answer = 0; lone = f; len = n; buffer = b }
+taken_at f (Err e) b = refused_with (refusal_number e) f b
+
+-- refused, the record f is the record l as it came
+abbrev pub Unchanged : Result ℕ Refusal → LoneAccessPoint → LoneAccessPoint → Type 0
+Unchanged (Ok n) f l = Unit {0}
+Unchanged (Err e) f l = f ≡ l
 
 -- what the machine answers, its record put back
 abbrev pub taken_of : LoneAccessPoint → LoneAnswer → Taken

@@ -10,7 +10,7 @@ ghost use Rattle.machine.specs.Valid.{valid_setup};
 ghost use Rattle.record.specs.Valid.{valid_record, valid_lone_record, Usable};
 ghost use Rattle.receiving.specs.Receive.{IsShort};
 ghost use Rattle.access_point.specs.Tick.{ticking_of, tick_done};
-ghost use Rattle.access_point.specs.Outside.{reply_fields, outside_of, answer_done, outside_done};
+ghost use Rattle.access_point.specs.Outside.{reply_fields, taken_at, outside_of, Unchanged, answer_done, outside_done};
 
 use answers::Refusal;
 use packet::{Command, Packet};
@@ -134,17 +134,20 @@ pub fn write_reply(r: Received, reply: Reply, buffer: &mut [u8]) -> Result<usize
     writer::write(p, context, buffer)
 }
 
-// An accepted packet from the AP `from`, with its context block: the record acts, and its answer is written; 10 for a
+// An accepted packet from the AP `from`, with its context block: the record acts where it stands, and its answer is written; 10 for a
 // buffer too short.
 fn answer_packet(
-    l: LoneAccessPoint,
+    l: &mut LoneAccessPoint,
     from: u8,
     r: Received,
     context: &[u8],
     buffer: &mut [u8],
-) -> Result<Answered, Refusal>
-    requires { (Usable l.point) × (length context.now ≤ 64) × (r.sequence ≤ 4095) }
-    ensures { outside_of l result buffer.new ≡ answer_done l from (packet_of (reading_of r) context.now) buffer.old }
+) -> Result<usize, Refusal>
+    requires slots { (length l.old.point.associations.items ≡ 16) × (length l.old.point.moves.items ≡ 8) }
+    requires point_usable { Usable l.old.point }
+    requires packet_limits { (length context.now ≤ 64) × (r.sequence ≤ 4095) }
+    ensures taken_value { taken_at l.new result buffer.new ≡ answer_done l.old from (packet_of (reading_of r) context.now) buffer.old }
+    ensures refused_value { Unchanged result l.new l.old }
 {
     let x = excerpt::of(&l.point, r.station);
     let h = receiving::receive(x, from, r, context);
@@ -152,24 +155,23 @@ fn answer_packet(
         Some(reply) => write_reply(r, reply, buffer)?,
         None => 0,
     };
-    let point = excerpt::put_back(&l.point, &h.after);
-    Ok(Answered {
-        lone: LoneAccessPoint { point, ..l },
-        len,
-    })
+    excerpt::store(&mut l.point, &h.after);
+    Ok(len)
 }
 
 // Outside bytes at an AP alone, from the AP `from`: 14, then 11, the reader's 1 to 9, and 10 for a buffer too short for the answer.
-// The answer is written at the front of the lent buffer; refused, record and buffer are as they came.
-pub fn outside(
-    l: LoneAccessPoint,
+// The record is changed where it stands, and the answer, whose length is given, is written at the front of the lent buffer; refused,
+// record and buffer are as they came.
+pub fn outside_at(
+    l: &mut LoneAccessPoint,
     from: u16,
     packet: &[u8],
     buffer: &mut [u8],
-) -> Result<Answered, Refusal>
-    ensures { outside_of l result buffer.new ≡ outside_done l from packet.now buffer.old }
+) -> Result<usize, Refusal>
+    ensures taken_value { taken_at l.new result buffer.new ≡ outside_done l.old from packet.now buffer.old }
+    ensures refused_value { Unchanged result l.new l.old }
 {
-    if !valid_lone(l) {
+    if !valid_lone(*l) {
         return Err(Refusal::InvalidRecord);
     }
     if l.ap_count as u16 <= from || from == l.number as u16 {
@@ -178,4 +180,18 @@ pub fn outside(
     let r = reader::read(packet)?;
     let end = r.start + r.len;
     answer_packet(l, from as u8, r, &packet[r.start..end], buffer)
+}
+
+// The same at a record that is handed over.
+pub fn outside(
+    l: LoneAccessPoint,
+    from: u16,
+    packet: &[u8],
+    buffer: &mut [u8],
+) -> Result<Answered, Refusal>
+    ensures { outside_of l result buffer.new ≡ outside_done l from packet.now buffer.old }
+{
+    let mut lone = l;
+    let len = outside_at(&mut lone, from, packet, buffer)?;
+    Ok(Answered { lone, len })
 }

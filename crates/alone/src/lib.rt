@@ -207,7 +207,7 @@ pub fn join(
         Ok(j) => {
             let reply = post_joined(buffer, j);
             if reply.answer == 0 {
-                lone.point = excerpt::put_back(&lone.point, &j.after);
+                excerpt::store(&mut lone.point, &j.after);
             }
             Outcome { lone, reply }
         }
@@ -225,8 +225,7 @@ pub fn leave(mut lone: LoneAccessPoint, station: &[u8; 6]) -> Outcome
         return answered(lone, Err(Refusal::GroupAddress));
     }
     let y = receiving::leave(excerpt::of(&lone.point, *station));
-    let left = excerpt::put_back(&lone.point, &y);
-    lone.point = left;
+    excerpt::store(&mut lone.point, &y);
     answered(lone, Ok(()))
 }
 
@@ -245,24 +244,21 @@ pub fn tick(lone: LoneAccessPoint, buffer: &mut [u8]) -> Outcome
 }
 
 // Outside bytes from the AP `from`: 14, 11, the reader's 1 to 9, then 10 for a buffer too short for the answer, which goes to `from`.
-pub fn outside(lone: LoneAccessPoint, buffer: &mut [u8], from: u16, packet: &[u8]) -> Outcome
+pub fn outside(mut lone: LoneAccessPoint, buffer: &mut [u8], from: u16, packet: &[u8]) -> Outcome
     ensures { told_of result buffer.new ≡ outside_alone lone from packet.now buffer.old }
 {
-    match access_point::outside(lone, from, packet, buffer) {
-        Ok(r) => {
-            let mut reply = reply_with(Ok(()));
-            if 0 < r.len {
+    let mut reply = reply_with(Ok(()));
+    match access_point::outside_at(&mut lone, from, packet, buffer) {
+        Ok(len) => {
+            if 0 < len {
                 reply.sent = 1;
                 reply.to[0] = from as u8;
-                reply.len = r.len;
-            }
-            Outcome {
-                lone: r.lone,
-                reply,
+                reply.len = len;
             }
         }
-        Err(refusal) => answered(lone, Err(refusal)),
+        Err(refusal) => reply = reply_with(Err(refusal)),
     }
+    Outcome { lone, reply }
 }
 
 // Whether the AP has a row of the station: 14, 13.

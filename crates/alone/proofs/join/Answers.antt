@@ -47,8 +47,8 @@ post_joined-reply-requires c =
     let v : valid_lone_record l ≡ true = sym c.valid_lone.ensures ∙ c.if-not-valid_lone.false in
     decided_sends _ _ _ _ _ (ap (λ (d : Done). d.sent) (c.in-Ok.ensures.result_value l.point (seen l v _ c.well_formed.0.1.1.0 c.args.station.now c.of-x.result c.of-x.ensures)))
 
-pub put_back-lone-requires : goal.put_back-lone-requires
-put_back-lone-requires c =
+pub store-requires : goal.store-requires
+store-requires c =
     let l = c.args.lone in
     let v : valid_lone_record l ≡ true = sym c.valid_lone.ensures ∙ c.if-not-valid_lone.false in
     ((usable l v).associations, c.in-Ok.ensures.allowed l.point (seen l v _ c.well_formed.0.1.1.0 c.args.station.now c.of-x.result c.of-x.ensures))
@@ -78,7 +78,7 @@ returns-then-reply-eq0 c =
     c.in-Ok.ensures.result_value l.point (seen l v _ c.well_formed.0.1.1.0 a.station.now c.of-x.result c.of-x.ensures)
     ∙ ap (λ (o : Option ℕ). join_of l.number l.ap_count l.timeout l.resend_limit a.station.now a.sequence o a.context.now l.point) c.old_named.ensures in
     let q : Posted = posted_of c.post_joined-reply.result c.post_joined-reply.new.buffer in
-    ap (λ (p : AccessPoint). told_of (record { lone = with_record p l; reply = q.reply }) q.buffer) c.put_back-lone.ensures
+    ap (λ (p : AccessPoint). told_of (record { lone = with_record p l; reply = q.reply }) q.buffer) c.store.ensures
     ∙ tell_done l d q c.if-reply-eq0.true
     ∙ told l v a.station.now a.sequence (old_named a.old) a.context.now a.buffer.now d j q c.post_joined-reply.ensures
 

@@ -26,8 +26,8 @@ returns-then-is_group c =
 pub of-requires : goal.of-requires
 of-requires c = (usable c.args.lone (sym c.valid_lone.ensures ∙ c.if-not-valid_lone.false)).associations
 
-pub put_back-left-requires : goal.put_back-left-requires
-put_back-left-requires c =
+pub store-requires : goal.store-requires
+store-requires c =
     let v : valid_lone_record c.args.lone ≡ true = sym c.valid_lone.ensures ∙ c.if-not-valid_lone.false in
     ((usable c.args.lone v).associations, c.leave-y.ensures.allowed _ _ (seen c.args.lone v _ c.well_formed.0.1.1.0 c.args.station.now c.of.result c.of.ensures))
 
@@ -36,4 +36,4 @@ returns c =
     let v : valid_lone_record c.args.lone ≡ true = sym c.valid_lone.ensures ∙ c.if-not-valid_lone.false in
     let q : Seen c.args.station.now c.args.lone.point c.of.result = seen c.args.lone v _ c.well_formed.0.1.1.0 c.args.station.now c.of.result c.of.ensures in
     c.answered-2.ensures
-    ∙ leave_told c.args.lone c.args.station.now v (sym c.is_group.ensures ∙ c.if-is_group.false) c.put_back-left.result (c.put_back-left.ensures ∙ c.leave-y.ensures.result_value _ _ q)
+    ∙ leave_told c.args.lone c.args.station.now v (sym c.is_group.ensures ∙ c.if-is_group.false) c.store.new.a (c.store.ensures ∙ c.leave-y.ensures.result_value _ _ q)
