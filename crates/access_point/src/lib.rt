@@ -34,12 +34,20 @@ pub struct Answered {
     pub len: usize,
 }
 
-// Whether 14 does not apply to the record, where the AP count is ap_count.
+// Whether 14 does not apply to the record where it stands, where the AP count is ap_count.
 #[tactic(auto, using(record::proofs::ValidLaws::in_two))]
+fn valid_at(a: &AccessPoint, ap_count: u8) -> bool
+    requires { (length a.now.associations.items ≡ 16) × (length a.now.moves.items ≡ 8) }
+    ensures { result ≡ valid_record ap_count a.now }
+{
+    associations::valid(&a.associations) && moves::valid(&a.moves, ap_count)
+}
+
+// Whether 14 does not apply to the record, where the AP count is ap_count.
 pub fn valid(a: AccessPoint, ap_count: u8) -> bool
     ensures { result ≡ valid_record ap_count a }
 {
-    associations::valid(&a.associations) && moves::valid(&a.moves, ap_count)
+    valid_at(&a, ap_count)
 }
 
 // Whether AP count, T and R are within document 01's limits: 14 does not apply to a set-up with them. Stay three numbers, here and in each
@@ -51,14 +59,22 @@ pub fn valid_setup(ap_count: u16, timeout: u16, resend_limit: u16) -> bool
     matches!(ap_count, 1..=8) && timeout != 0 && resend_limit <= 7
 }
 
-// The same as `valid` of an AP alone, with its own number, AP count, T and R.
+// The same as `valid` of an AP alone where its record stands, with its own number, AP count, T and R.
 #[tactic(auto, using(lists::proofs::Tables::tests), unfolding(record::specs::Valid::valid_lone_record))]
-pub fn valid_lone(l: LoneAccessPoint) -> bool
-    ensures { result ≡ valid_lone_record l }
+pub fn valid_lone_at(l: &LoneAccessPoint) -> bool
+    requires { (length l.now.point.associations.items ≡ 16) × (length l.now.point.moves.items ≡ 8) }
+    ensures { result ≡ valid_lone_record l.now }
 {
     valid_setup(l.ap_count as u16, l.timeout, l.resend_limit as u16)
         && l.number < l.ap_count
-        && valid(l.point, l.ap_count)
+        && valid_at(&l.point, l.ap_count)
+}
+
+// The same at a record that is handed over.
+pub fn valid_lone(l: LoneAccessPoint) -> bool
+    ensures { result ≡ valid_lone_record l }
+{
+    valid_lone_at(&l)
 }
 
 // What a tick sends again, and how many moves it gives up.

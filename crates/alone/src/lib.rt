@@ -188,7 +188,7 @@ pub fn join(
 ) -> Outcome
     ensures { told_of result buffer.new ≡ join_alone lone station.now sequence (old_named old) context.now buffer.old }
 {
-    if !access_point::valid_lone(lone) {
+    if !access_point::valid_lone_at(&lone) {
         return answered(lone, Err(Refusal::InvalidRecord));
     }
     let setup = Setup {
@@ -218,7 +218,7 @@ pub fn join(
 pub fn leave(mut lone: LoneAccessPoint, station: &[u8; 6]) -> Outcome
     ensures { result ≡ leave_alone lone station.now }
 {
-    if !access_point::valid_lone(lone) {
+    if !access_point::valid_lone_at(&lone) {
         return answered(lone, Err(Refusal::InvalidRecord));
     }
     if actions::is_group(*station) {
@@ -233,7 +233,7 @@ pub fn leave(mut lone: LoneAccessPoint, station: &[u8; 6]) -> Outcome
 pub fn tick(lone: LoneAccessPoint, buffer: &mut [u8]) -> Outcome
     ensures { told_of result buffer.new ≡ tick_alone lone buffer.old }
 {
-    if !access_point::valid_lone(lone) {
+    if !access_point::valid_lone_at(&lone) {
         return answered(lone, Err(Refusal::InvalidRecord));
     }
     let number = lone.number as u16;
@@ -265,7 +265,7 @@ pub fn outside(mut lone: LoneAccessPoint, buffer: &mut [u8], from: u16, packet: 
 pub fn who(lone: LoneAccessPoint, station: &[u8; 6]) -> Outcome
     ensures { result ≡ who_alone lone station.now }
 {
-    if !access_point::valid_lone(lone) {
+    if !access_point::valid_lone_at(&lone) {
         return answered(lone, Err(Refusal::InvalidRecord));
     }
     let group = actions::is_group(*station);

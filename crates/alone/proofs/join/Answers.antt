@@ -28,36 +28,36 @@ told : (l : LoneAccessPoint) → valid_lone_record l ≡ true → (s : Station) 
     → (p : Posted) → p ≡ posted_into d.answer d.sent d.given_up b → tell l d p ≡ join_alone l s n old c b
 told l v s n old c b d e p f = ap (tell l d) f ∙ join_told l v s n old c b d e
 
-pub returns-then-not-valid_lone : goal.returns-then-not-valid_lone
+pub returns-then-not-valid_lone_at : goal.returns-then-not-valid_lone_at
 unfolding join_alone
-returns-then-not-valid_lone c =
+returns-then-not-valid_lone_at c =
     ap (λ (o : Outcome). told_of o c.args.buffer.now) c.answered.ensures
-    ∙ not_valid c.args.lone _ _ c.args.buffer.now (sym c.valid_lone.ensures ∙ c.if-not-valid_lone.true)
+    ∙ not_valid c.args.lone _ _ c.args.buffer.now (sym c.valid_lone_at.ensures ∙ c.if-not-valid_lone_at.true)
 
 pub of-x-requires : goal.of-x-requires
-of-x-requires c = (usable c.args.lone (sym c.valid_lone.ensures ∙ c.if-not-valid_lone.false)).associations
+of-x-requires c = (usable c.args.lone (sym c.valid_lone_at.ensures ∙ c.if-not-valid_lone_at.false)).associations
 
 pub join_excerpt-requires : goal.join_excerpt-requires
-join_excerpt-requires c = few_points c.args.lone (sym c.valid_lone.ensures ∙ c.if-not-valid_lone.false)
+join_excerpt-requires c = few_points c.args.lone (sym c.valid_lone_at.ensures ∙ c.if-not-valid_lone_at.false)
 
 pub post_joined-reply-requires : goal.post_joined-reply-requires
 unfolding join_of
 post_joined-reply-requires c =
     let l = c.args.lone in
-    let v : valid_lone_record l ≡ true = sym c.valid_lone.ensures ∙ c.if-not-valid_lone.false in
+    let v : valid_lone_record l ≡ true = sym c.valid_lone_at.ensures ∙ c.if-not-valid_lone_at.false in
     decided_sends _ _ _ _ _ (ap (λ (d : Done). d.sent) (c.in-Ok.ensures.result_value l.point (seen l v _ c.well_formed.0.1.1.0 c.args.station.now c.of-x.result c.of-x.ensures)))
 
 pub store-requires : goal.store-requires
 store-requires c =
     let l = c.args.lone in
-    let v : valid_lone_record l ≡ true = sym c.valid_lone.ensures ∙ c.if-not-valid_lone.false in
+    let v : valid_lone_record l ≡ true = sym c.valid_lone_at.ensures ∙ c.if-not-valid_lone_at.false in
     ((usable l v).associations, c.in-Ok.ensures.allowed l.point (seen l v _ c.well_formed.0.1.1.0 c.args.station.now c.of-x.result c.of-x.ensures))
 
 pub returns-in-Err : goal.returns-in-Err
 returns-in-Err c =
     let a = c.args in
     let l = a.lone in
-    let v : valid_lone_record l ≡ true = sym c.valid_lone.ensures ∙ c.if-not-valid_lone.false in
+    let v : valid_lone_record l ≡ true = sym c.valid_lone_at.ensures ∙ c.if-not-valid_lone_at.false in
     let d : Done = joining_of l.point (Err c.in-Err.r) in
     let j : d ≡ join_of l.number l.ap_count l.timeout l.resend_limit a.station.now a.sequence (old_named a.old) a.context.now l.point =
     c.in-Err.ensures.result_value l.point (seen l v _ c.well_formed.0.1.1.0 a.station.now c.of-x.result c.of-x.ensures)
@@ -72,7 +72,7 @@ pub returns-then-reply-eq0 : goal.returns-then-reply-eq0
 returns-then-reply-eq0 c =
     let a = c.args in
     let l = a.lone in
-    let v : valid_lone_record l ≡ true = sym c.valid_lone.ensures ∙ c.if-not-valid_lone.false in
+    let v : valid_lone_record l ≡ true = sym c.valid_lone_at.ensures ∙ c.if-not-valid_lone_at.false in
     let d : Done = joining_of l.point (Ok c.in-Ok.j) in
     let j : d ≡ join_of l.number l.ap_count l.timeout l.resend_limit a.station.now a.sequence (old_named a.old) a.context.now l.point =
     c.in-Ok.ensures.result_value l.point (seen l v _ c.well_formed.0.1.1.0 a.station.now c.of-x.result c.of-x.ensures)
@@ -86,7 +86,7 @@ pub returns-else-reply-eq0 : goal.returns-else-reply-eq0
 returns-else-reply-eq0 c =
     let a = c.args in
     let l = a.lone in
-    let v : valid_lone_record l ≡ true = sym c.valid_lone.ensures ∙ c.if-not-valid_lone.false in
+    let v : valid_lone_record l ≡ true = sym c.valid_lone_at.ensures ∙ c.if-not-valid_lone_at.false in
     let d : Done = joining_of l.point (Ok c.in-Ok.j) in
     let j : d ≡ join_of l.number l.ap_count l.timeout l.resend_limit a.station.now a.sequence (old_named a.old) a.context.now l.point =
     c.in-Ok.ensures.result_value l.point (seen l v _ c.well_formed.0.1.1.0 a.station.now c.of-x.result c.of-x.ensures)

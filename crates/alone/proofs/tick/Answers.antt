@@ -17,15 +17,15 @@ use Rattle.alone.proofs.Within.{moves_within}
 use Rattle.alone.proofs.Acts.{tell_refused, posted_refused, not_valid, tick_told}
 use Rattle.alone.proofs.tick.Goals as goal
 
-pub returns-then-not-valid_lone : goal.returns-then-not-valid_lone
+pub returns-then-not-valid_lone_at : goal.returns-then-not-valid_lone_at
 unfolding tick_alone
-returns-then-not-valid_lone c =
+returns-then-not-valid_lone_at c =
     ap (λ (o : Outcome). told_of o c.args.buffer.now) c.answered.ensures
-    ∙ not_valid c.args.lone _ _ c.args.buffer.now (sym c.valid_lone.ensures ∙ c.if-not-valid_lone.true)
+    ∙ not_valid c.args.lone _ _ c.args.buffer.now (sym c.valid_lone_at.ensures ∙ c.if-not-valid_lone_at.true)
 
 pub tick-requires : goal.tick-requires
 tick-requires c =
-    let v : valid_lone_record c.args.lone ≡ true = sym c.valid_lone.ensures ∙ c.if-not-valid_lone.false in
+    let v : valid_lone_record c.args.lone ≡ true = sym c.valid_lone_at.ensures ∙ c.if-not-valid_lone_at.false in
     record { usable = usable c.args.lone v; moves_value = moves_within c.args.lone v }
 
 pub told-requires : goal.told-requires
@@ -35,7 +35,7 @@ told-requires c = decided_sends _ _ _ _ _ (ap (λ (d : Done). d.sent) c.in-Ok.en
 pub returns-in-Ok : goal.returns-in-Ok
 returns-in-Ok c =
     c.told.ensures
-    ∙ tick_told c.args.lone (sym c.valid_lone.ensures ∙ c.if-not-valid_lone.false) c.args.buffer.now (done_of c.args.lone.point (Ok c.in-Ok.t)) c.in-Ok.ensures
+    ∙ tick_told c.args.lone (sym c.valid_lone_at.ensures ∙ c.if-not-valid_lone_at.false) c.args.buffer.now (done_of c.args.lone.point (Ok c.in-Ok.t)) c.in-Ok.ensures
 
 pub returns-in-Err : goal.returns-in-Err
 returns-in-Err c =
@@ -46,4 +46,4 @@ returns-in-Err c =
     ap (λ (o : Outcome). told_of o a.buffer.now) c.answered-in-Err.ensures
     ∙ tell_refused l d (posted_of (reply_with d.answer) a.buffer.now) n
     ∙ ap (tell l d) (posted_refused d.answer d.sent d.given_up a.buffer.now n)
-    ∙ tick_told l (sym c.valid_lone.ensures ∙ c.if-not-valid_lone.false) a.buffer.now d c.in-Err.ensures
+    ∙ tick_told l (sym c.valid_lone_at.ensures ∙ c.if-not-valid_lone_at.false) a.buffer.now d c.in-Err.ensures
