@@ -154,12 +154,7 @@ pub fn join(
 }
 
 // A station leaves AP `at` of ap_count: 11, 13, then its association is removed. Nothing is sent.
-pub fn leave_in(
-    a: &mut AccessPoint,
-    at: u16,
-    ap_count: u8,
-    station: [u8; 6],
-) -> Result<u8, Refusal>
+pub fn leave_in(a: &mut AccessPoint, at: u16, ap_count: u8, station: [u8; 6]) -> Result<u8, Refusal>
     requires { Usable a.old × Spans a.old }
     ensures done { done_in a.old a.new (outbox_of []) result ≡ leave_of at ap_count station a.old }
     ensures refused { Left result a.new a.old }
