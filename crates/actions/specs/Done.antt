@@ -49,6 +49,11 @@ abbrev pub Left : Result ℕ Refusal → AccessPoint → AccessPoint → Type 0
 Left (Ok g) b a = Unit {0}
 Left (Err r) b a = b ≡ a
 
+-- refused, the packets o are s as they came
+abbrev pub Unsent : Result ℕ Refusal → Outbox → Outbox → Type 0
+Unsent (Ok g) o s = Unit {0}
+Unsent (Err r) o s = o ≡ s
+
 -- the lists of a record that is lent have room for as many as its counts say, as the type of a record by value says
 pub record Spans (a : AccessPoint) : Type 0 where
   pub associations : a.associations.count ≤ length a.associations.items

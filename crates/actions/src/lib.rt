@@ -12,7 +12,7 @@ ghost use Rattle.in_flight.specs.Post.{outbox_of};
 ghost use Rattle.excerpt.specs.Excerpts.{put_back, Allowed, Seen};
 ghost use Rattle.joining.specs.Join.{sends_by};
 ghost use Rattle.structs.specs.declared.AccessPoint.{AccessPoint};
-ghost use Rattle.actions.specs.Done.{Spans, Left, quietly, done_of, done_in, joining_of, join_of, leave_of, tick_of, receive_of, lose_of};
+ghost use Rattle.actions.specs.Done.{Spans, Left, Unsent, quietly, done_of, done_in, joining_of, join_of, leave_of, tick_of, receive_of, lose_of};
 
 use answers::Refusal;
 use excerpt::Excerpt;
@@ -122,6 +122,7 @@ pub fn join_in(
     requires ap_count_bound { setup.ap_count ≤ 8 }
     ensures done { done_in a.old a.new sent.new result ≡ join_of at setup.ap_count setup.timeout setup.resend_limit request.station request.sequence request.old context.now a.old }
     ensures refused { Left result a.new a.old }
+    ensures unsent { Unsent result sent.new sent.old }
 {
     let x = excerpt::of(a, request.station);
     let j = join_excerpt(x, at, setup, request, context)?;
@@ -199,6 +200,7 @@ pub fn tick_in(
     requires moves_value { every sequence_within (get_moves a.old.moves) ≡ true }
     ensures done { done_in a.old a.new sent.new result ≡ tick_of at ap_count timeout a.old }
     ensures refused { Left result a.new a.old }
+    ensures unsent { Unsent result sent.new sent.old }
 {
     if ap_count as u16 <= at {
         return Err(Refusal::UnknownAccessPoint);
@@ -238,6 +240,7 @@ pub fn receive_in(
     requires len_bound { at < count → (p.now.len ≤ 82) × (readable (octets_in p.now) ≡ true) }
     ensures done { done_in a.old a.new sent.new result ≡ receive_of at count p.now a.old }
     ensures refused { Left result a.new a.old }
+    ensures unsent { Unsent result sent.new sent.old }
 {
     if count <= at as usize {
         return Err(Refusal::UnknownPacket);

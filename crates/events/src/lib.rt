@@ -12,7 +12,7 @@ ghost use Rattle.structs.specs.Lists.{get_moves};
 ghost use Rattle.record.specs.Valid.{Usable};
 ghost use Rattle.sending.specs.Sends.{sequence_within};
 ghost use Rattle.in_flight.specs.Post.{outbox_of};
-ghost use Rattle.actions.specs.Done.{Spans, Left, done_of, done_in};
+ghost use Rattle.actions.specs.Done.{Spans, Left, Unsent, done_of, done_in};
 ghost use Rattle.events.specs.Event.{is_who, event_from};
 ghost use Rattle.events.specs.Apart.{packet_for, point_for, taken_for, action_for, settled_by};
 
@@ -71,6 +71,7 @@ pub fn act(
     requires len_bound { e.at < count → (p.now.len ≤ 82) × (readable (octets_in p.now) ≡ true) }
     ensures done { done_in a.old a.new sent.new result ≡ action_for e.kind e.at e.station e.sequence e.old context.now setup.ap_count setup.timeout setup.resend_limit count a.old p.now }
     ensures refused { Left result a.new a.old }
+    ensures unsent { Unsent result sent.new sent.old }
 {
     let Event {
         kind,
